@@ -1,0 +1,3 @@
+pub mod Grating
+pub mod Laws
+pub mod Examples

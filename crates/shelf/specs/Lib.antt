@@ -1,0 +1,9 @@
+pub mod Network
+pub mod NetworkLaws
+pub mod Rows
+pub mod Every
+pub mod Light
+pub mod Arrival
+pub mod Collisions
+pub mod LawfulLaws
+pub mod Examples

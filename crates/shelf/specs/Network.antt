@@ -1,0 +1,63 @@
+-- The network's record, its limits and its cycle.
+--   mostChannels, mostCentrals, mostModules, mostCalls == the limits of n, m, r and of the rows of a table
+--   withinLimits net   == n, m and r are within their limits; else refusal 1
+--   cycle net          == Λ, the cycle of both gratings; the wavelengths inside the shelf are those below it
+--   ownWavelength net x, ownCentral net γ == x is one of the shelf's own wavelengths, γ one of its own centrals
+--   sized net          == what the constructor answers; `numberOf` is its number, and `Built` what it promises
+use mathlib.Core.Path.{_≡_}
+use mathlib.Core.Bool.{Bool, cond, _&&_}
+use Prim.Native.Nat.{ℕ, max}
+use lib.Dec.{leb, ltb}
+use Rattle.shelf.specs.declared.Network.{Network}
+use Rattle.shelf.specs.declared.Sized.{Sized}
+use Rattle.shelf.specs.declared.Sized.the-variants.{Made, Refused}
+
+-- "n: channels of each input and each output module, 1 to 16. m: central modules, 1 to 32; m may be smaller than n.
+-- r: input modules, and as many output modules, 1 to 64." "A table holds K rows, 0 to 1,024". `Limits` ties these four to the
+-- constants of the network type, in the constructor's promise.
+unfoldable pub mostChannels : ℕ
+mostChannels = 16
+
+unfoldable pub mostCentrals : ℕ
+mostCentrals = 32
+
+unfoldable pub mostModules : ℕ
+mostModules = 64
+
+unfoldable pub mostCalls : ℕ
+mostCalls = 1024
+
+pub record Limits (channels centrals modules calls : ℕ) : Type 0 where
+  pub of-n : channels ≡ mostChannels
+  pub of-m : centrals ≡ mostCentrals
+  pub of-r : modules ≡ mostModules
+  pub of-K : calls ≡ mostCalls
+
+unfoldable pub within : ℕ → ℕ → Bool
+within size most = leb 1 size && leb size most
+
+unfoldable pub withinLimits : Network → Bool
+withinLimits net = within (net .n) mostChannels && (within (net .m) mostCentrals && within (net .r) mostModules)
+
+-- "Λ is the larger of r and m, as in document 004; wavelengths inside the shelf are numbered 0 to Λ−1."
+unfoldable pub cycle : Network → ℕ
+cycle net = max (net .r) (net .m)
+
+unfoldable pub ownWavelength : Network → ℕ → Bool
+ownWavelength net x = ltb x (cycle net)
+
+unfoldable pub ownCentral : Network → ℕ → Bool
+ownCentral net γ = ltb γ (net .m)
+
+-- The constructor's answer. Of its two cases a network that is made is success, 0; the other is refusal 1, "n, m or r
+-- outside its limits", and holds nothing.
+unfoldable pub sized : Network → Sized
+sized net = cond (withinLimits net) (Made net) Refused
+
+abbrev pub numberOf : Sized → ℕ
+numberOf (Made net) = 0
+numberOf Refused = 1
+
+pub record Built (net : Network) (answer : Sized) : Type 0 where
+  pub is-sized : answer ≡ sized net
+  pub number : numberOf answer ≡ cond (withinLimits net) 0 1
