@@ -60,7 +60,7 @@ module _ (net : Network) (ρ : Row) where
   second-output b h =
       second-from (ρ .γ) (first-central h) ∙ is-some _ (ρ .β) (port-is (net .r) _ (ρ .β) .1 (rw (h .at-output) b, h .at-output))
 
-  owned-is : T (owned net ρ) ↔ ((ρ .x < cycle net) × (ρ .y < cycle net) × T (ownCentral net (ρ .γ)))
+  pub owned-is : T (owned net ρ) ↔ ((ρ .x < cycle net) × (ρ .y < cycle net) × T (ownCentral net (ρ .γ)))
   unfolding owned
   owned-is = (
     λ h.

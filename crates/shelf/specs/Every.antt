@@ -1,5 +1,6 @@
 -- A test of every number below a bound, and tests joined.
 --   everyBelow k p == every number below k passes p
+--   someBelow k p  == some number below k passes p
 use mathlib.Core.Path.{_≡_}
 use mathlib.Core.Logic.{_⊎_, inl, inr, _↔_}
 use mathlib.Core.Bool.{Bool, true, false, not, _&&_, _||_}
@@ -11,6 +12,10 @@ use lib.Dec.{T}
 unfoldable pub everyBelow : ℕ → (ℕ → Bool) → Bool
 everyBelow zero p = true
 everyBelow (suc k) p = everyBelow k p && p k
+
+unfoldable pub someBelow : ℕ → (ℕ → Bool) → Bool
+someBelow zero p = false
+someBelow (suc k) p = someBelow k p || p k
 
 -- ---- laws
 
@@ -29,6 +34,11 @@ pub not-is : (t : Bool) → T (not t) ↔ (T t → ⊥)
 not-is true = (λ h g. h, λ h. h tt)
 not-is false = (λ h g. g, λ h. tt)
 
+-- neither of two tests
+pub neither-is : (s t : Bool) → T (not (s || t)) ↔ (T (not s) × T (not t))
+neither-is true t = (λ h. absurd h, λ h. h .0)
+neither-is false t = (λ h. (tt, h), λ h. h .1)
+
 -- below suc k: k itself, or below k
 pub below-suc : {i k : ℕ} → i < suc k → (i ≡ k) ⊎ (i < k)
 below-suc h = eq-or-lt-of-le (le-of-suc-le-suc h)
@@ -44,3 +54,19 @@ every-is (suc k) p = (all (every-is k p .0), λ h. both-is (everyBelow k p) (p k
         go : (i ≡ k) ⊎ (i < k) → T (p i)
         go (inl e) = rw e (both-is (everyBelow k p) (p k) .0 h .1)
         go (inr b) = deep (both-is (everyBelow k p) (p k) .0 h .0) i b
+
+pub some-is : (k : ℕ) (p : ℕ → Bool) → T (someBelow k p) ↔ ((i : ℕ) × (i < k) × T (p i))
+unfolding someBelow
+some-is zero p = (λ h. absurd h, λ h. absurd (omega arith))
+some-is (suc k) p = (
+  λ h. to (some-is k p .0) (either-is (someBelow k p) (p k) .0 h),
+  λ h. either-is (someBelow k p) (p k) .1 (from (some-is k p .1) (h .0) (below-suc (h .1)) (h .2)),
+)
+  where
+    to : (T (someBelow k p) → (i : ℕ) × (i < k) × T (p i)) → T (someBelow k p) ⊎ T (p k) → (i : ℕ) × (i < suc k) × T (p i)
+    to deep (inl h) = let w = deep h in (w .0, omega arith, w .2)
+    to deep (inr h) = (k, omega arith, h)
+
+    from : ((i : ℕ) × (i < k) × T (p i) → T (someBelow k p)) → (i : ℕ) → (i ≡ k) ⊎ (i < k) → T (p i) → T (someBelow k p) ⊎ T (p k)
+    from deep i (inl e) t = inr (rw e at t)
+    from deep i (inr l) t = inl (deep (i, l, t))

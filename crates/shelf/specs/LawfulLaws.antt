@@ -11,9 +11,11 @@ use native.Mathlib.Omega.{arith}
 use lib.Dec.{T}
 use lib.ListN.{length}
 use Rattle.shelf.specs.declared.Network.{Network}
-use Rattle.shelf.specs.Rows.{rowCount, α, β, γ}
+use Rattle.shelf.specs.declared.CallRow.{CallRow}
+use Rattle.shelf.specs.declared.SettingsRow.{SettingsRow}
+use Rattle.shelf.specs.Rows.{rowCount, α, β, γ, CallRead, SettingsRead}
 use Rattle.shelf.specs.Every.{both-is, not-is, every-is}
-use Rattle.shelf.specs.Light.{rowAt, collide, Collide, arrives, rowForEachCall, everyRowArrives, noTwoRowsCollide, lawful, Lawful}
+use Rattle.shelf.specs.Light.{rowAt, rowOf, collide, Collide, arrives, rowForEachCall, everyRowArrives, noTwoRowsCollide, lawful, Lawful}
 use Rattle.shelf.specs.Arrival.{eqb-is, Through, arrives-through}
 use Rattle.shelf.specs.Collisions.{OnePair, collide-pair}
 
@@ -78,3 +80,8 @@ module _ (net : Network) (calls settings : List ℕ) where
             arrive = arrive;
             apart = λ j k i l c. ⊎-elim (λ p. h .inputs j k i l (p .0) (p .1)) (λ p. h .outputs j k i l (p .0) (p .1)) (pair arrive j k i l .0 c);
           }
+
+-- a row read from the two tables is the row of their bytes
+pub row-read : (calls settings : List ℕ) (i : ℕ) (call : CallRow) (set : SettingsRow) → CallRead calls i call → SettingsRead settings i set → rowOf call set ≡ rowAt calls settings i
+unfolding rowAt
+row-read calls settings i call set c s = rw (c .input-module, c .output-module, s .to-central, s .central, s .from-central)

@@ -1,5 +1,5 @@
 -- How light travels through the shelf, and which settings are lawful. Nothing here mentions the acceptance of settings.
---   Row, rowAt         == what the light of one row goes by: α and β of its call, x, γ and y of its settings
+--   Row, rowAt, rowOf  == what the light of one row goes by: α and β of its call, x, γ and y of its settings
 --   first net ρ        == the port p at which the row's light leaves the first grating, or none where it is lost there
 --   second net ρ       == the port q at which it leaves the second grating, or none where it is lost before or there
 --   Kind               == the four kinds of link
@@ -18,6 +18,8 @@ use lib.Dec.{T, eqb, ltb}
 use lib.ListN.{length}
 use Rattle.grating.specs.Grating.{exitPort}
 use Rattle.shelf.specs.declared.Network.{Network}
+use Rattle.shelf.specs.declared.CallRow.{CallRow}
+use Rattle.shelf.specs.declared.SettingsRow.{SettingsRow}
 use Rattle.shelf.specs.Network.{cycle, ownWavelength, ownCentral}
 use Rattle.shelf.specs.Rows as rows
 use Rattle.shelf.specs.Rows.{rowCount}
@@ -33,6 +35,10 @@ pub record Row : Type 0 where
 -- "Settings row i belongs to call row i."
 unfoldable pub rowAt : List ℕ → List ℕ → ℕ → Row
 rowAt calls settings i = record { α = rows.α calls i; β = rows.β calls i; x = rows.x settings i; γ = rows.γ settings i; y = rows.y settings i }
+
+-- the same row, out of the code's own records of a call row and a settings row
+abbrev pub rowOf : CallRow → SettingsRow → Row
+rowOf call set = record { α = call .«input_module»; β = call .«output_module»; x = set .«to_central»; γ = set .central; y = set .«from_central» }
 
 -- a port where something stands only below `top`: there, or the light is lost
 unfoldable pub portBelow : ℕ → ℕ → Option ℕ

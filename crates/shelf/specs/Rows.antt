@@ -2,10 +2,10 @@
 --   rowCount calls   == K, the number of rows of a call table
 --   α, ω, β, ω'      == input module, its channel, output module, its channel of call row i
 --   x, γ, y          == wavelength after the input module, central module, wavelength after it of settings row i
---   CallRead, SettingsRead == what the code's row records hold
+--   CallRead, SettingsRead == what the code's row records hold: these numbers, and each is a byte
 use mathlib.Core.Path.{_≡_}
 use mathlib.Core.List.{List}
-use Prim.Native.Nat.{ℕ, _+_, _*_, _/_}
+use Prim.Native.Nat.{ℕ, _+_, _*_, _/_, _<_}
 use lib.ListN.{length, getD}
 use Rattle.shelf.specs.declared.CallRow.{CallRow}
 use Rattle.shelf.specs.declared.SettingsRow.{SettingsRow}
@@ -42,8 +42,15 @@ pub record CallRead (calls : List ℕ) (i : ℕ) (call : CallRow) : Type 0 where
   pub input-channel : call .«input_channel» ≡ ω calls i
   pub output-module : call .«output_module» ≡ β calls i
   pub output-channel : call .«output_channel» ≡ ω' calls i
+  pub small-input-module : call .«input_module» < 256
+  pub small-input-channel : call .«input_channel» < 256
+  pub small-output-module : call .«output_module» < 256
+  pub small-output-channel : call .«output_channel» < 256
 
 pub record SettingsRead (settings : List ℕ) (i : ℕ) (row : SettingsRow) : Type 0 where
   pub to-central : row .«to_central» ≡ x settings i
   pub central : row .central ≡ γ settings i
   pub from-central : row .«from_central» ≡ y settings i
+  pub small-to-central : row .«to_central» < 256
+  pub small-central : row .central < 256
+  pub small-from-central : row .«from_central» < 256

@@ -1,7 +1,7 @@
 // The shelf: the network's own record with its limits, and the rows of a call table and of settings out of bytes.
 // How light travels through a shelf, and which settings are lawful, are definitions in specs/Light.antt.
 ghost use mathlib.Core.Path.{_≡_};
-ghost use Prim.Native.Nat.{_+_, _*_, _≤_};
+ghost use Prim.Native.Nat.{_+_, _*_, _≤_, _<_};
 ghost use lib.ListN.{length};
 ghost use Rattle.shelf.specs.Network.{Limits, within, withinLimits, Built, cycle};
 ghost use Rattle.shelf.specs.Rows.{CallRead, SettingsRead};
@@ -123,7 +123,7 @@ impl SettingsRow {
 
 // A byte as an index.
 fn wide(byte: u8) -> usize
-    ensures { λ value. ⌜ value ≡ byte ⌝ }
+    ensures { λ value. ⌜ (value ≡ byte) × (value < 256) ⌝ }
 {
     byte as usize
 }

@@ -1,0 +1,141 @@
+-- `acceptance::seek_unlawful` meets its contract. The loop's invariant: the records hold the pairs of the rows passed so far,
+-- and none of those rows is refused.
+use mathlib.Core.Path.{_≡_, refl, sym, ap, _∙_}
+use mathlib.Core.Bool.{true}
+use Prim.Native.Nat.{_≤_, _<_, _-_}
+use native.Mathlib.Nat.{le-antisymm}
+use native.Mathlib.Omega.{arith}
+use borrow.Author.Needs.{needs}
+use lib.ListN.{length}
+use Rattle.shelf.specs.Network.{mostModules, mostCentrals}
+use Rattle.shelf.specs.NetworkLaws.{limits-are}
+use Rattle.shelf.specs.Rows.{rowCount, α, β}
+use Rattle.calls.specs.Verdict.{passed, seekRows}
+use Rattle.calls.specs.Use.{blank, marks, length-marks}
+use Rattle.acceptance.specs.Acceptance.{rowVerdict, unlawfulRow}
+use Rattle.acceptance.specs.Pairs.{pairs, pairSlots, light-refuses, pair-room, pair-told, pair-marked, twelve, thirteen, row-passes}
+use Rattle.acceptance.proofs.seek_unlawful.Statement.{statement}
+use Rattle.acceptance.proofs.seek_unlawful.Tie as tie
+
+abbrev Inv-loop : tie.InvT-loop
+Inv-loop net calls settings count inputs₀ outputs₀ row₀ inputs outputs row =
+    (row ≤ count)
+    × (inputs ≡ marks pairs (pairSlots (α calls) settings) row)
+    × (outputs ≡ marks pairs (pairSlots (β calls) settings) row)
+    × (seekRows row (rowVerdict net calls settings) ≡ passed)
+
+abbrev μ-loop : tie.MeasureT-loop
+μ-loop net calls settings count inputs₀ outputs₀ row₀ inputs outputs row = count - row
+
+loop-holds : tie.Need-loop-holds Inv-loop μ-loop
+unfolding seekRows marks blank pairs mostModules mostCentrals
+loop-holds c = (omega arith, refl, refl, refl)
+
+at-requires : tie.Need-at-requires Inv-loop μ-loop
+at-requires c κs = omega arith
+
+at-requires-2 : tie.Need-at-requires-2 Inv-loop μ-loop
+unfolding rowCount
+at-requires-2 c κs = omega arith
+
+judge-light-requires : tie.Need-judge-light-requires Inv-loop μ-loop
+unfolding rowCount
+judge-light-requires c κs = rw (c .before .at .ensures .input-module) (c .before .before .before .before .before .before .pre .2 _ (c .before .before .loop-test .taken) .own-α)
+
+-- the modules of the row, in the largest network
+small-input : (c : tie.After-at2 Inv-loop μ-loop) → c .before .at .result .«input_module» < mostModules
+unfolding rowCount
+small-input c =
+    let l = limits-are _ .0 (c .before .before .before .before .before .before .pre .0) in
+    omega (arith, c .before .at .ensures .input-module, c .before .before .before .before .before .before .pre .2 _ (c .before .before .loop-test .taken) .own-α)
+
+small-output : (c : tie.After-at2 Inv-loop μ-loop) → c .before .at .result .«output_module» < mostModules
+unfolding rowCount
+small-output c =
+    let l = limits-are _ .0 (c .before .before .before .before .before .before .pre .0) in
+    omega (arith, c .before .at .ensures .output-module, c .before .before .before .before .before .before .pre .2 _ (c .before .before .loop-test .taken) .own-β)
+
+returns : tie.Need-returns Inv-loop μ-loop
+unfolding rowCount
+returns c = light-refuses _ _ _ _ (c .before .before .before .before .before .before .before .before .before .pre .0) (c .before .before .before .before .before .loop-test .taken) (c .before .before .before .before .before .before .loop .inv .3) _ _ (c .before .before .before .before .at .ensures) (c .before .before .before .at2 .ensures) _ (c .before .before .judge-light .ensures) (c .if1 .taken)
+
+slice-aggregate-mark : tie.Need-slice-aggregate-mark Inv-loop μ-loop
+unfolding pairs mostModules mostCentrals
+slice-aggregate-mark c = sym (ap length (c .before .before .before .before .before .before .before .loop .inv .1) ∙ length-marks pairs _ _)
+
+mul-mark : tie.Need-mul-mark Inv-loop μ-loop
+mul-mark c = search needs
+
+add-mark : tie.Need-add-mark Inv-loop μ-loop
+add-mark c = search needs
+
+mark-requires : tie.Need-mark-requires Inv-loop μ-loop
+unfolding rowCount mostCentrals
+mark-requires c κs = rw (c .before .before .before .before .before .before .before .before .before .loop .inv .1, length-marks pairs) (pair-room _ _ _ _ (c .before .before .before .before .before .before .before .before .before .before .before .before .pre .0) (c .before .before .before .before .before .before .before .before .loop-test .taken) (c .before .before .before .before .before .before .before .before .before .loop .inv .3) _ _ (c .before .before .before .before .before .before .before .at .ensures) (c .before .before .before .before .before .before .at2 .ensures) _ (c .before .before .before .before .before .judge-light .ensures) (c .before .before .before .if1 .left) (α _) _ (c .before .before .before .before .before .before .before .at .ensures .input-module) (small-input (c .before .before .before .before .before .before)))
+
+returns-2 : tie.Need-returns-2 Inv-loop μ-loop
+unfolding rowCount mostCentrals
+returns-2 c = twelve _ _ _ _ (c .before .before .before .before .before .before .before .before .before .before .before .before .before .before .before .pre .0) (c .before .before .before .before .before .before .before .before .before .before .before .loop-test .taken) (c .before .before .before .before .before .before .before .before .before .before .before .before .loop .inv .3) _ _ (c .before .before .before .before .before .before .before .before .before .before .at .ensures) (c .before .before .before .before .before .before .before .before .before .at2 .ensures) _ (c .before .before .before .before .before .before .before .before .judge-light .ensures) (c .before .before .before .before .before .before .if1 .left) _ true (pair-told _ _ _ _ (c .before .before .before .before .before .before .before .before .before .before .before .before .before .before .before .pre .0) (c .before .before .before .before .before .before .before .before .before .before .before .loop-test .taken) (c .before .before .before .before .before .before .before .before .before .before .before .before .loop .inv .3) _ _ (c .before .before .before .before .before .before .before .before .before .before .at .ensures) (c .before .before .before .before .before .before .before .before .before .at2 .ensures) _ (c .before .before .before .before .before .before .before .before .judge-light .ensures) (c .before .before .before .before .before .before .if1 .left) (α _) _ (c .before .before .before .before .before .before .before .before .before .before .at .ensures .input-module) (small-input (c .before .before .before .before .before .before .before .before .before)) _ _ _ (c .before .before .before .before .before .before .before .before .before .before .before .before .loop .inv .1) (c .before .before .mark .ensures)) (c .if2 .taken)
+
+slice-aggregate-mark-2 : tie.Need-slice-aggregate-mark-2 Inv-loop μ-loop
+unfolding pairs mostModules mostCentrals
+slice-aggregate-mark-2 c = sym (ap length (c .before .before .before .before .before .before .before .before .before .before .before .before .before .loop .inv .2) ∙ length-marks pairs _ _)
+
+mul-mark-2 : tie.Need-mul-mark-2 Inv-loop μ-loop
+mul-mark-2 c = search needs
+
+add-mark-2 : tie.Need-add-mark-2 Inv-loop μ-loop
+add-mark-2 c = search needs
+
+mark-requires-2 : tie.Need-mark-requires-2 Inv-loop μ-loop
+unfolding rowCount mostCentrals
+mark-requires-2 c κs = rw (c .before .before .before .before .before .before .before .before .before .before .before .before .before .before .before .loop .inv .2, length-marks pairs) (pair-room _ _ _ _ (c .before .before .before .before .before .before .before .before .before .before .before .before .before .before .before .before .before .before .pre .0) (c .before .before .before .before .before .before .before .before .before .before .before .before .before .before .loop-test .taken) (c .before .before .before .before .before .before .before .before .before .before .before .before .before .before .before .loop .inv .3) _ _ (c .before .before .before .before .before .before .before .before .before .before .before .before .before .at .ensures) (c .before .before .before .before .before .before .before .before .before .before .before .before .at2 .ensures) _ (c .before .before .before .before .before .before .before .before .before .before .before .judge-light .ensures) (c .before .before .before .before .before .before .before .before .before .if1 .left) (β _) _ (c .before .before .before .before .before .before .before .before .before .before .before .before .before .at .ensures .output-module) (small-output (c .before .before .before .before .before .before .before .before .before .before .before .before)))
+
+returns-3 : tie.Need-returns-3 Inv-loop μ-loop
+unfolding rowCount mostCentrals
+returns-3 c = thirteen _ _ _ _ (c .before .before .before .before .before .before .before .before .before .before .before .before .before .before .before .before .before .before .before .before .before .pre .0) (c .before .before .before .before .before .before .before .before .before .before .before .before .before .before .before .before .before .loop-test .taken) (c .before .before .before .before .before .before .before .before .before .before .before .before .before .before .before .before .before .before .loop .inv .3) _ _ (c .before .before .before .before .before .before .before .before .before .before .before .before .before .before .before .before .at .ensures) (c .before .before .before .before .before .before .before .before .before .before .before .before .before .before .before .at2 .ensures) _ (c .before .before .before .before .before .before .before .before .before .before .before .before .before .before .judge-light .ensures) (c .before .before .before .before .before .before .before .before .before .before .before .before .if1 .left) _ _ (pair-told _ _ _ _ (c .before .before .before .before .before .before .before .before .before .before .before .before .before .before .before .before .before .before .before .before .before .pre .0) (c .before .before .before .before .before .before .before .before .before .before .before .before .before .before .before .before .before .loop-test .taken) (c .before .before .before .before .before .before .before .before .before .before .before .before .before .before .before .before .before .before .loop .inv .3) _ _ (c .before .before .before .before .before .before .before .before .before .before .before .before .before .before .before .before .at .ensures) (c .before .before .before .before .before .before .before .before .before .before .before .before .before .before .before .at2 .ensures) _ (c .before .before .before .before .before .before .before .before .before .before .before .before .before .before .judge-light .ensures) (c .before .before .before .before .before .before .before .before .before .before .before .before .if1 .left) (α _) _ (c .before .before .before .before .before .before .before .before .before .before .before .before .before .before .before .before .at .ensures .input-module) (small-input (c .before .before .before .before .before .before .before .before .before .before .before .before .before .before .before)) _ _ _ (c .before .before .before .before .before .before .before .before .before .before .before .before .before .before .before .before .before .before .loop .inv .1) (c .before .before .before .before .before .before .before .before .mark .ensures)) (pair-told _ _ _ _ (c .before .before .before .before .before .before .before .before .before .before .before .before .before .before .before .before .before .before .before .before .before .pre .0) (c .before .before .before .before .before .before .before .before .before .before .before .before .before .before .before .before .before .loop-test .taken) (c .before .before .before .before .before .before .before .before .before .before .before .before .before .before .before .before .before .before .loop .inv .3) _ _ (c .before .before .before .before .before .before .before .before .before .before .before .before .before .before .before .before .at .ensures) (c .before .before .before .before .before .before .before .before .before .before .before .before .before .before .before .at2 .ensures) _ (c .before .before .before .before .before .before .before .before .before .before .before .before .before .before .judge-light .ensures) (c .before .before .before .before .before .before .before .before .before .before .before .before .if1 .left) (β _) _ (c .before .before .before .before .before .before .before .before .before .before .before .before .before .before .before .before .at .ensures .output-module) (small-output (c .before .before .before .before .before .before .before .before .before .before .before .before .before .before .before)) _ _ _ (c .before .before .before .before .before .before .before .before .before .before .before .before .before .before .before .before .before .before .loop .inv .2) (c .before .before .mark2 .ensures)) (c .before .before .before .before .before .before .if2 .left) (c .if3 .taken)
+
+add-row : tie.Need-add-row Inv-loop μ-loop
+add-row c = omega (arith, c .before .before .before .before .before .before .before .before .before .before .before .before .before .before .before .before .before .before .before .before .before .good .1 .0 .0)
+
+loop-less : tie.Need-loop-less Inv-loop μ-loop
+loop-less c = omega arith
+
+loop-again : tie.Need-loop-again Inv-loop μ-loop
+unfolding rowCount mostCentrals
+loop-again c = (
+  omega arith,
+  pair-marked _ _ _ _ (c .before .before .before .before .before .before .before .before .before .before .before .before .before .before .before .before .before .before .before .before .before .pre .0) (c .before .before .before .before .before .before .before .before .before .before .before .before .before .before .before .before .before .loop-test .taken) (c .before .before .before .before .before .before .before .before .before .before .before .before .before .before .before .before .before .before .loop .inv .3) _ _ (c .before .before .before .before .before .before .before .before .before .before .before .before .before .before .before .before .at .ensures) (c .before .before .before .before .before .before .before .before .before .before .before .before .before .before .before .at2 .ensures) _ (c .before .before .before .before .before .before .before .before .before .before .before .before .before .before .judge-light .ensures) (c .before .before .before .before .before .before .before .before .before .before .before .before .if1 .left) (α _) _ (c .before .before .before .before .before .before .before .before .before .before .before .before .before .before .before .before .at .ensures .input-module) (small-input (c .before .before .before .before .before .before .before .before .before .before .before .before .before .before .before)) _ _ _ (c .before .before .before .before .before .before .before .before .before .before .before .before .before .before .before .before .before .before .loop .inv .1) (c .before .before .before .before .before .before .before .before .mark .ensures),
+  pair-marked _ _ _ _ (c .before .before .before .before .before .before .before .before .before .before .before .before .before .before .before .before .before .before .before .before .before .pre .0) (c .before .before .before .before .before .before .before .before .before .before .before .before .before .before .before .before .before .loop-test .taken) (c .before .before .before .before .before .before .before .before .before .before .before .before .before .before .before .before .before .before .loop .inv .3) _ _ (c .before .before .before .before .before .before .before .before .before .before .before .before .before .before .before .before .at .ensures) (c .before .before .before .before .before .before .before .before .before .before .before .before .before .before .before .at2 .ensures) _ (c .before .before .before .before .before .before .before .before .before .before .before .before .before .before .judge-light .ensures) (c .before .before .before .before .before .before .before .before .before .before .before .before .if1 .left) (β _) _ (c .before .before .before .before .before .before .before .before .before .before .before .before .before .before .before .before .at .ensures .output-module) (small-output (c .before .before .before .before .before .before .before .before .before .before .before .before .before .before .before)) _ _ _ (c .before .before .before .before .before .before .before .before .before .before .before .before .before .before .before .before .before .before .loop .inv .2) (c .before .before .mark2 .ensures),
+  row-passes _ _ _ _ (c .before .before .before .before .before .before .before .before .before .before .before .before .before .before .before .before .before .before .before .before .before .pre .0) (c .before .before .before .before .before .before .before .before .before .before .before .before .before .before .before .before .before .loop-test .taken) (c .before .before .before .before .before .before .before .before .before .before .before .before .before .before .before .before .before .before .loop .inv .3) _ _ (c .before .before .before .before .before .before .before .before .before .before .before .before .before .before .before .before .at .ensures) (c .before .before .before .before .before .before .before .before .before .before .before .before .before .before .before .at2 .ensures) _ (c .before .before .before .before .before .before .before .before .before .before .before .before .before .before .judge-light .ensures) (c .before .before .before .before .before .before .before .before .before .before .before .before .if1 .left) _ _ (pair-told _ _ _ _ (c .before .before .before .before .before .before .before .before .before .before .before .before .before .before .before .before .before .before .before .before .before .pre .0) (c .before .before .before .before .before .before .before .before .before .before .before .before .before .before .before .before .before .loop-test .taken) (c .before .before .before .before .before .before .before .before .before .before .before .before .before .before .before .before .before .before .loop .inv .3) _ _ (c .before .before .before .before .before .before .before .before .before .before .before .before .before .before .before .before .at .ensures) (c .before .before .before .before .before .before .before .before .before .before .before .before .before .before .before .at2 .ensures) _ (c .before .before .before .before .before .before .before .before .before .before .before .before .before .before .judge-light .ensures) (c .before .before .before .before .before .before .before .before .before .before .before .before .if1 .left) (α _) _ (c .before .before .before .before .before .before .before .before .before .before .before .before .before .before .before .before .at .ensures .input-module) (small-input (c .before .before .before .before .before .before .before .before .before .before .before .before .before .before .before)) _ _ _ (c .before .before .before .before .before .before .before .before .before .before .before .before .before .before .before .before .before .before .loop .inv .1) (c .before .before .before .before .before .before .before .before .mark .ensures)) (pair-told _ _ _ _ (c .before .before .before .before .before .before .before .before .before .before .before .before .before .before .before .before .before .before .before .before .before .pre .0) (c .before .before .before .before .before .before .before .before .before .before .before .before .before .before .before .before .before .loop-test .taken) (c .before .before .before .before .before .before .before .before .before .before .before .before .before .before .before .before .before .before .loop .inv .3) _ _ (c .before .before .before .before .before .before .before .before .before .before .before .before .before .before .before .before .at .ensures) (c .before .before .before .before .before .before .before .before .before .before .before .before .before .before .before .at2 .ensures) _ (c .before .before .before .before .before .before .before .before .before .before .before .before .before .before .judge-light .ensures) (c .before .before .before .before .before .before .before .before .before .before .before .before .if1 .left) (β _) _ (c .before .before .before .before .before .before .before .before .before .before .before .before .before .before .before .before .at .ensures .output-module) (small-output (c .before .before .before .before .before .before .before .before .before .before .before .before .before .before .before)) _ _ _ (c .before .before .before .before .before .before .before .before .before .before .before .before .before .before .before .before .before .before .loop .inv .2) (c .before .before .mark2 .ensures)) (c .before .before .before .before .before .before .if2 .left) (c .if3 .left),
+)
+
+returns-4 : tie.Need-returns-4 Inv-loop μ-loop
+unfolding unlawfulRow rowCount passed
+returns-4 c = let q = le-antisymm (c .before .loop .inv .0) (c .loop-test .left) in rw (← q) (sym (c .before .loop .inv .3))
+
+pub seek-unlawful-spec : {M : Type 1} → statement M
+seek-unlawful-spec =
+    tie.close
+    (tie.spec
+    Inv-loop
+    μ-loop
+    loop-holds
+    at-requires
+    at-requires-2
+    judge-light-requires
+    returns
+    slice-aggregate-mark
+    mul-mark
+    add-mark
+    mark-requires
+    returns-2
+    slice-aggregate-mark-2
+    mul-mark-2
+    add-mark-2
+    mark-requires-2
+    returns-3
+    add-row
+    loop-less
+    loop-again
+    returns-4)

@@ -1,0 +1,5 @@
+pub mod Acceptance
+pub mod Exactly
+pub mod Tests
+pub mod Pairs
+pub mod Examples
