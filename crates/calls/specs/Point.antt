@@ -1,5 +1,5 @@
 -- The inlets and the outlets of a table, by one name, so that what is said of one is said of both.
---   pointModule, pointChannel == module and channel of row i: of its outlet where `outlets`, else of its inlet
+--   pointChannel         == the channel of row i: of its outlet where `outlets`, else of its inlet
 --   pointSlot calls outlets i == the row's place in a record of use
 --   pointUsed calls outlets i == an earlier row has the same point
 --   pointTwice calls outlets number == the first row whose point an earlier row uses
@@ -14,31 +14,27 @@ use lib.Dec.{leb}
 use Rattle.shelf.specs.declared.Network.{Network}
 use Rattle.shelf.specs.declared.CallRow.{CallRow}
 use Rattle.shelf.specs.Network.{mostChannels, mostModules}
-use Rattle.shelf.specs.Rows.{rowCount, α, ω, β, ω', CallRead}
+use Rattle.shelf.specs.Rows.{rowCount, ω, ω', moduleOf, CallRead}
 use Rattle.calls.specs.declared.Verdict.{Verdict}
 use Rattle.calls.specs.Verdict.{refusedIf, seekRows}
 use Rattle.calls.specs.Table.{outside, usedEarlier, inletTwice, outletTwice}
 use Rattle.calls.specs.Use.{slot, marks, Marked, mark-tells, mark-next}
-
-abbrev pub pointModule : List ℕ → Bool → ℕ → ℕ
-pointModule calls true = β calls
-pointModule calls false = α calls
 
 abbrev pub pointChannel : List ℕ → Bool → ℕ → ℕ
 pointChannel calls true = ω' calls
 pointChannel calls false = ω calls
 
 unfoldable pub pointSlot : List ℕ → Bool → ℕ → ℕ
-pointSlot calls outlets = slot mostChannels (pointModule calls outlets) (pointChannel calls outlets)
+pointSlot calls outlets = slot mostChannels (moduleOf calls outlets) (pointChannel calls outlets)
 
 unfoldable pub pointUsed : List ℕ → Bool → ℕ → Bool
-pointUsed calls outlets = usedEarlier (pointModule calls outlets) (pointChannel calls outlets)
+pointUsed calls outlets = usedEarlier (moduleOf calls outlets) (pointChannel calls outlets)
 
 unfoldable pub pointTwice : List ℕ → Bool → ℕ → Verdict
 pointTwice calls outlets number = seekRows (rowCount calls) (λ i. refusedIf number i (pointUsed calls outlets i))
 
 pub record PointFits (calls : List ℕ) (outlets : Bool) (i : ℕ) : Type 0 where
-  pub own-module : pointModule calls outlets i < mostModules
+  pub own-module : moduleOf calls outlets i < mostModules
   pub own-channel : pointChannel calls outlets i < mostChannels
 
 unfoldable pub outsideCall : Network → CallRow → Bool
@@ -73,9 +69,9 @@ module _ (calls : List ℕ) (outlets : Bool) (i : ℕ) (fits : (j : ℕ) → j <
   pub point-told : before ≡ pointUsed calls outlets i
   unfolding pointSlot pointUsed
   point-told =
-      mark-tells points mostChannels (pointModule calls outlets) (pointChannel calls outlets) i v used used′ before e q m
+      mark-tells points mostChannels (moduleOf calls outlets) (pointChannel calls outlets) i v used used′ before e q m
       (λ j k. fits j (omega arith) .own-channel) (rw q (point-below calls outlets i (fits i l)))
 
   pub point-marked : used′ ≡ marks points (pointSlot calls outlets) (i + 1)
   unfolding pointSlot
-  point-marked = mark-next points mostChannels (pointModule calls outlets) (pointChannel calls outlets) i v used used′ before e q m
+  point-marked = mark-next points mostChannels (moduleOf calls outlets) (pointChannel calls outlets) i v used used′ before e q m

@@ -23,7 +23,7 @@ pub holds-is : (b : Bool) → T (not (not b)) ↔ T b
 holds-is true = (λ h. h, λ h. h)
 holds-is false = (λ h. h, λ h. h)
 
-less-is : (a b : ℕ) → T (not (leb a b)) ↔ (b < a)
+pub less-is : (a b : ℕ) → T (not (leb a b)) ↔ (b < a)
 less-is a b = (nleb→lt a b, λ h. not-T (leb a b) (λ t. omega (arith, leb→le a b t)))
 
 pub sizes-pass : (net : Network) → (badSizes net .number ≡ 0) ↔ T (withinLimits net)
@@ -84,7 +84,7 @@ inside-is net calls i = (
     w' = leb (net .n) (ω' calls i)
 
 -- a check sought row by row passes where every row does
-every-row : (number k : ℕ) (bad : ℕ → Bool) → (seekRows k (λ i. refusedIf (suc number) i (bad i)) .number ≡ 0) ↔ ((i : ℕ) → i < k → T (not (bad i)))
+pub every-row : (number k : ℕ) (bad : ℕ → Bool) → (seekRows k (λ i. refusedIf (suc number) i (bad i)) .number ≡ 0) ↔ ((i : ℕ) → i < k → T (not (bad i)))
 every-row number k bad = Iff·trans (seek-passes (λ i. refusedIf (suc number) i (bad i)) k) (
   λ h i l. refused-zero number i (bad i) .0 (h i l),
   λ h i l. refused-zero number i (bad i) .1 (h i l),

@@ -9,8 +9,7 @@ use mathlib.Core.Path.{_≡_, refl, sym, ap, _∙_}
 use mathlib.Core.Logic.{_↔_}
 use mathlib.Core.Bool.{Bool, true, false, cond, _&&_, _||_}
 use mathlib.Core.List.{List}
-use Prim.Native.Nat.{ℕ, zero, suc, _+_, _*_, _/_, _%_, _<_}
-use native.Mathlib.Nat.{mod-eq-of-lt, mul-add-mod-self-right, mul-div-cancel}
+use Prim.Native.Nat.{ℕ, zero, suc, _+_, _*_, _<_}
 use native.Mathlib.Decide.{ℕ-discrete}
 use native.Mathlib.Numerals.{add-one}
 use native.Mathlib.Omega.{arith}
@@ -18,7 +17,8 @@ use lib.Dec.{T, eqb}
 use lib.ListN.{length, getD, set, replicate, length-set, length-replicate, getD-replicate}
 use lib.Seq.{getD-set-same, getD-set-other}
 use borrow.Author.Tests.{eq-eqb, ne-eqb}
-use Rattle.shelf.specs.Every.{someBelow, both-is}
+use Rattle.shelf.specs.Every.{someBelow, both-is, same-test}
+use Rattle.shelf.specs.Slots.{slot-same}
 use Rattle.shelf.specs.Arrival.{eqb-is}
 use Rattle.calls.specs.Table.{usedEarlier}
 
@@ -55,24 +55,10 @@ marked size s (suc i) v l = go (ℕ-discrete v (s i)) (marked size s i v l)
     go (yes e) h = rw (eq-eqb (s i) v (sym e), last (someBelow i (λ j. eqb (s j) v)), e) (getD-set-same (marks size s i) (s i) 1 0 (rw (length-marks size s i, ← e) l))
     go (no n) h = rw (ne-eqb (s i) v (λ e. n (sym e)), rest (someBelow i (λ j. eqb (s j) v))) (getD-set-other (marks size s i) (s i) v 1 0 n ∙ h)
 
--- two tests that hold together are the same test
-same-test : (a b : Bool) → T a ↔ T b → a ≡ b
-same-test true true h = refl
-same-test true false h = absurd (h .0 tt)
-same-test false true h = absurd (h .1 tt)
-same-test false false h = refl
-
 some-same : (k : ℕ) (p q : ℕ → Bool) → ((j : ℕ) → j < k → p j ≡ q j) → someBelow k p ≡ someBelow k q
 unfolding someBelow
 some-same zero p q h = refl
 some-same (suc k) p q h = rw (some-same k p q (λ j l. h j (omega arith)), h k (omega arith))
-
--- a slot tells its two numbers
-slot-same : (w a b c d : ℕ) → b < w → d < w → a * w + b ≡ c * w + d → (a ≡ c) × (b ≡ d)
-slot-same w a b c d hb hd e =
-    let low : b ≡ d = sym (mod-eq-of-lt hb) ∙ sym (mul-add-mod-self-right a w b) ∙ ap (λ (t : ℕ). t % w) e ∙ mul-add-mod-self-right c w d ∙ mod-eq-of-lt hd in
-    let high : a * w ≡ c * w = omega arith in
-    (sym (mul-div-cancel a (omega arith)) ∙ ap (λ (t : ℕ). t / w) high ∙ mul-div-cancel c (omega arith), low)
 
 pub used-by-slot : (w : ℕ) (f g : ℕ → ℕ) (i : ℕ) → ((j : ℕ) → j < suc i → g j < w)
     → someBelow i (λ j. eqb (slot w f g j) (slot w f g i)) ≡ usedEarlier f g i

@@ -64,6 +64,10 @@ pub not-refused : (number row : ℕ) (bad : Bool) → bad ≡ false → refusedI
 unfolding refusedIf
 not-refused number row bad e = rw e
 
+pub passed-zero : passed .number ≡ 0
+unfolding passed
+passed-zero = refl
+
 pub refused-zero : (number row : ℕ) (bad : Bool) → (refusedIf (suc number) row bad .number ≡ 0) ↔ T (not bad)
 unfolding refusedIf passed
 refused-zero number row true = (λ h. absurd (omega arith), λ h. absurd h)

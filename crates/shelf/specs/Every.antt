@@ -1,7 +1,7 @@
 -- A test of every number below a bound, and tests joined.
 --   everyBelow k p == every number below k passes p
 --   someBelow k p  == some number below k passes p
-use mathlib.Core.Path.{_≡_}
+use mathlib.Core.Path.{_≡_, refl}
 use mathlib.Core.Logic.{_⊎_, inl, inr, _↔_}
 use mathlib.Core.Bool.{Bool, true, false, not, _&&_, _||_}
 use Prim.Native.Nat.{ℕ, zero, suc, _<_}
@@ -38,6 +38,13 @@ not-is false = (λ h g. g, λ h. tt)
 pub neither-is : (s t : Bool) → T (not (s || t)) ↔ (T (not s) × T (not t))
 neither-is true t = (λ h. absurd h, λ h. h .0)
 neither-is false t = (λ h. (tt, h), λ h. h .1)
+
+-- two tests that hold together are the same test
+pub same-test : (s t : Bool) → T s ↔ T t → s ≡ t
+same-test true true h = refl
+same-test true false h = absurd (h .0 tt)
+same-test false true h = absurd (h .1 tt)
+same-test false false h = refl
 
 -- below suc k: k itself, or below k
 pub below-suc : {i k : ℕ} → i < suc k → (i ≡ k) ⊎ (i < k)

@@ -2,6 +2,7 @@ pub mod Network
 pub mod NetworkLaws
 pub mod Rows
 pub mod Every
+pub mod Slots
 pub mod Light
 pub mod Arrival
 pub mod Collisions

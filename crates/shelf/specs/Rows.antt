@@ -1,9 +1,11 @@
 -- Rows out of bytes.
 --   rowCount calls   == K, the number of rows of a call table
 --   α, ω, β, ω'      == input module, its channel, output module, its channel of call row i
+--   moduleOf calls output == β where `output`, else α: so that what is said of one side is said of both
 --   x, γ, y          == wavelength after the input module, central module, wavelength after it of settings row i
 --   CallRead, SettingsRead == what the code's row records hold: these numbers, and each is a byte
 use mathlib.Core.Path.{_≡_}
+use mathlib.Core.Bool.{Bool, true, false}
 use mathlib.Core.List.{List}
 use Prim.Native.Nat.{ℕ, _+_, _*_, _/_, _<_}
 use lib.ListN.{length, getD}
@@ -25,6 +27,11 @@ unfoldable pub β : List ℕ → ℕ → ℕ
 
 unfoldable pub ω' : List ℕ → ℕ → ℕ
 ω' calls i = getD calls (4 * i + 3) 0
+
+-- the module of row i on one side: its output module where `output`, else its input module
+abbrev pub moduleOf : List ℕ → Bool → ℕ → ℕ
+moduleOf calls true = β calls
+moduleOf calls false = α calls
 
 -- "A settings row is 3 bytes: x, γ, y: the wavelength after the input module, the central module, the wavelength after
 -- the central module."

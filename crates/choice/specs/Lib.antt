@@ -1,0 +1,15 @@
+pub mod Rule
+pub mod Examples
+pub mod Lists
+pub mod Search
+pub mod Chain
+pub mod Exchange
+pub mod Count
+pub mod StepLaws
+pub mod PlanLaws
+pub mod Use
+pub mod Order
+pub mod Record
+pub mod Walk
+pub mod RecordLaws
+pub mod Placement

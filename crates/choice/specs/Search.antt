@@ -1,0 +1,144 @@
+-- What the searches of the choice rule find. A search is never reasoned about by its clauses: each has a view that says what its answer means.
+--   Found p k o         == o is the least number below k that passes the test, or none does
+--   Picked order p o    == o is a central of the order that passes the test, or none does
+--   Free f γ k v c      == no row below k stands at module v of the side f on central c
+--   Standing f γ k v c o == o is a row below k that stands there, or the central is free there
+--   rowsBelow k p       == all numbers below k that pass the test
+use mathlib.Core.Path.{_≡_, refl}
+use mathlib.Core.Logic.{_⊎_, inl, inr, _↔_}
+use mathlib.Core.Bool.{Bool, true, false}
+use mathlib.Core.Option.{Option, none, some}
+use mathlib.Core.List.{List, [], _∷_}
+use Prim.Native.Nat.{ℕ, zero, suc, _<_}
+use native.Mathlib.Omega.{arith}
+use lib.Dec.{T, eqb, eqb→eq, eqb-refl}
+use Rattle.shelf.specs.Every.{both-is, below-suc}
+use Rattle.choice.specs.Lists.{In, here, there, not-in-nil, Distinct}
+use Rattle.choice.specs.Rule.{firstBelow, firstOf, stands, rowOn, isNone, isFree}
+
+-- ---- the least number below k
+
+pub data Found (p : ℕ → Bool) (k : ℕ) : Option ℕ → Type 0 where
+  hit : (i : ℕ) → i < k → T (p i) → ((j : ℕ) → j < i → T (p j) → ⊥) → Found p k (some i)
+  miss : ((i : ℕ) → i < k → T (p i) → ⊥) → Found p k none
+
+pub found : (p : ℕ → Bool) (k : ℕ) → Found p k (firstBelow k p)
+unfolding firstBelow
+found p zero = miss (λ i h t. omega arith)
+found p (suc k) = go (found p k)
+  where
+    test : (b : Bool) → p k ≡ b → ((i : ℕ) → i < k → T (p i) → ⊥) → Found p (suc k) (elim b [ true ↦ some k | false ↦ none ])
+    test true e m = hit k (omega arith) (rw e tt) m
+    test false e m =
+        let other : (i : ℕ) → (i ≡ k) ⊎ (i < k) → T (p i) → ⊥ = λ i. elim [ inl q ↦ λ t. rw (q, e) at t | inr h ↦ m i h ] in
+        miss (λ i h t. other i (below-suc h) t)
+
+    go : {o : Option ℕ} → Found p k o → Found p (suc k) (elim o [ some i ↦ some i | none ↦ elim (p k) [ true ↦ some k | false ↦ none ] ])
+    go (hit i h t m) = hit i (omega arith) t m
+    go (miss m) = test (p k) refl m
+
+-- ---- the first central of the order
+
+pub data Picked (order : List ℕ) (p : ℕ → Bool) : Option ℕ → Type 0 where
+  got : (c : ℕ) → In c order → T (p c) → Picked order p (some c)
+  nothing : ((c : ℕ) → In c order → T (p c) → ⊥) → Picked order p none
+
+pub picked : (order : List ℕ) (p : ℕ → Bool) → Picked order p (firstOf order p)
+unfolding firstOf
+picked [] p = nothing (λ c m t. not-in-nil m)
+picked (c ∷ cs) p = test (p c) refl (picked cs p)
+  where
+    test : (b : Bool) → p c ≡ b → {o : Option ℕ} → Picked cs p o → Picked (c ∷ cs) p (elim b [ true ↦ some c | false ↦ o ])
+    test true e m = got c (here refl) (rw e tt)
+    test false e (got x m t) = got x (there m) t
+    test false e (nothing m) = nothing other
+      where
+        other : (x : ℕ) → In x (c ∷ cs) → T (p x) → ⊥
+        other x (here q) t = rw (q, e) at t
+        other x (there q) t = m x q t
+
+-- the same, of a search whose answer is known
+pub first-some : (order : List ℕ) (p : ℕ → Bool) (c : ℕ) → firstOf order p ≡ some c → In c order × T (p c)
+first-some order p c = go (picked order p)
+  where
+    go : {o : Option ℕ} → Picked order p o → o ≡ some c → In c order × T (p c)
+    go (got x m t) e = let q : x ≡ c = cc in rw (← q) (m, t)
+    go (nothing m) e = let z : _≡_ {A = ℕ} 0 1 = cc in absurd (omega arith)
+
+pub first-none : (order : List ℕ) (p : ℕ → Bool) → firstOf order p ≡ none → (c : ℕ) → In c order → T (p c) → ⊥
+first-none order p = go (picked order p)
+  where
+    go : {o : Option ℕ} → Picked order p o → o ≡ none → (c : ℕ) → In c order → T (p c) → ⊥
+    go (got x m t) e c n u = let z : _≡_ {A = ℕ} 0 1 = cc in omega arith
+    go (nothing m) e c n u = m c n u
+
+-- ---- a row of a module on a central
+
+abbrev pub Free : (f γ : ℕ → ℕ) (k v c : ℕ) → Type 0
+Free f γ k v c = (q : ℕ) → q < k → f q ≡ v → γ q ≡ c → ⊥
+
+pub data Standing (f γ : ℕ → ℕ) (k v c : ℕ) : Option ℕ → Type 0 where
+  row : (e : ℕ) → e < k → f e ≡ v → γ e ≡ c → Standing f γ k v c (some e)
+  free : Free f γ k v c → Standing f γ k v c none
+
+module _ (f γ : ℕ → ℕ) (k v c : ℕ) where
+  stands-iff : (i : ℕ) → T (stands f γ v c i) ↔ ((f i ≡ v) × (γ i ≡ c))
+  stands-iff i = (
+    (λ t. let r = both-is (eqb (f i) v) (eqb (γ i) c) .0 t in (eqb→eq (f i) v (r .0), eqb→eq (γ i) c (r .1))),
+    (λ p. rw (p .0, p .1) (both-is (eqb v v) (eqb c c) .1 (eqb-refl v, eqb-refl c))),
+  )
+
+  -- the search for a row finds one that stands there, or the central is free there
+  pub standing : Standing f γ k v c (rowOn f γ k v c)
+  standing = go (found (stands f γ v c) k)
+    where
+      go : {o : Option ℕ} → Found (stands f γ v c) k o → Standing f γ k v c o
+      go (hit i h t m) = let p = stands-iff i .0 t in row i h (p .0) (p .1)
+      go (miss m) = free (λ q l x y. m q l (stands-iff q .1 (x, y)))
+
+  -- the test `isFree` says what it should
+  pub free-iff : T (isFree f γ k v c) ↔ Free f γ k v c
+  unfolding isNone
+  free-iff = go standing
+    where
+      go : {o : Option ℕ} → Standing f γ k v c o → T (isNone o) ↔ Free f γ k v c
+      go (row e l x y) = (λ t. absurd t, λ w. w e l x y)
+      go (free w) = (λ t. w, λ t. tt)
+
+-- ---- all rows that pass a test
+
+unfoldable pub rowsBelow : ℕ → (ℕ → Bool) → List ℕ
+rowsBelow zero p = []
+rowsBelow (suc k) p = elim (p k) [ true ↦ k ∷ rowsBelow k p | false ↦ rowsBelow k p ]
+
+-- they are below k and pass, every such number is among them, and none is twice
+pub rows-pass : (k : ℕ) (p : ℕ → Bool) (i : ℕ) → In i (rowsBelow k p) → (i < k) × T (p i)
+unfolding rowsBelow
+rows-pass zero p i m = absurd (not-in-nil m)
+rows-pass (suc k) p i m = go (λ q. let r = rows-pass k p i q in (omega arith, r .1)) (p k) refl m
+  where
+    go : (In i (rowsBelow k p) → (i < suc k) × T (p i)) → (b : Bool) → p k ≡ b
+        → In i (elim b [ true ↦ k ∷ rowsBelow k p | false ↦ rowsBelow k p ]) → (i < suc k) × T (p i)
+    go deep true e (here q) = (omega arith, rw (q, e) tt)
+    go deep true e (there q) = deep q
+    go deep false e q = deep q
+
+pub rows-hold : (k : ℕ) (p : ℕ → Bool) (i : ℕ) → i < k → T (p i) → In i (rowsBelow k p)
+unfolding rowsBelow
+rows-hold zero p i h t = absurd (omega arith)
+rows-hold (suc k) p i h t = go (λ l. rows-hold k p i l t) (p k) refl (below-suc h)
+  where
+    go : (i < k → In i (rowsBelow k p)) → (b : Bool) → p k ≡ b → (i ≡ k) ⊎ (i < k) → In i (elim b [ true ↦ k ∷ rowsBelow k p | false ↦ rowsBelow k p ])
+    go deep true e (inl q) = here q
+    go deep true e (inr l) = there (deep l)
+    go deep false e (inl q) = absurd (rw (q, e) at t)
+    go deep false e (inr l) = deep l
+
+pub rows-distinct : (k : ℕ) (p : ℕ → Bool) → Distinct (rowsBelow k p)
+unfolding rowsBelow
+rows-distinct zero p = tt
+rows-distinct (suc k) p = go (rows-distinct k p) (p k)
+  where
+    go : Distinct (rowsBelow k p) → (b : Bool) → Distinct (elim b [ true ↦ k ∷ rowsBelow k p | false ↦ rowsBelow k p ])
+    go d true = ((λ m. omega (arith, rows-pass k p k m)), d)
+    go d false = d

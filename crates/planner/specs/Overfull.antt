@@ -1,0 +1,79 @@
+-- Overfull modules: what refusal 8 finds, row by row, is a module with more calls than there are centrals.
+use mathlib.Core.Path.{_≡_}
+use mathlib.Core.Logic.{_↔_, Iff·trans}
+use mathlib.Core.Bool.{Bool, true, false, not}
+use mathlib.Core.List.{List}
+use Prim.Native.Nat.{ℕ, zero, suc, _≤_, _<_}
+use native.Mathlib.Decide.{ℕ-discrete, le-ind}
+use native.Mathlib.Omega.{arith}
+use lib.Dec.{T, ltb}
+use lib.ListN.{length}
+use borrow.Author.Tests.{eq-eqb, ne-eqb}
+use Rattle.shelf.specs.declared.Network.{Network}
+use Rattle.shelf.specs.Rows.{rowCount, α, β, moduleOf}
+use Rattle.shelf.specs.Every.{neither-is}
+use Rattle.calls.specs.TableLaws.{less-is, every-row}
+use Rattle.choice.specs.Search.{rowsBelow}
+use Rattle.choice.specs.Count.{atModule, count-next}
+use Rattle.choice.specs.PlanLaws.{Fits}
+use Rattle.choice.specs.Order.{order}
+use Rattle.planner.specs.Planner.{overfull, overfullRow, NoneOverfull}
+
+pub fits-is : (net : Network) (calls : List ℕ) (i : ℕ) → T (not (overfull net calls i)) ↔ (Fits (α calls) (order net) i × Fits (β calls) (order net) i)
+unfolding overfull
+fits-is net calls i = (
+  λ h. let t = neither-is (ltb L a) (ltb L b) .0 h in (fewer a .0 (t .0), fewer b .0 (t .1)),
+  λ h. neither-is (ltb L a) (ltb L b) .1 (fewer a .1 (h .0), fewer b .1 (h .1)),
+)
+  where
+    L : ℕ
+    L = length (order net)
+
+    a : ℕ
+    a = length (atModule (α calls) (suc i) (α calls i))
+
+    b : ℕ
+    b = length (atModule (β calls) (suc i) (β calls i))
+
+    fewer : (t : ℕ) → T (not (ltb L t)) ↔ (t ≤ L)
+    fewer t = (λ h. let l = less-is (suc L) t .0 h in omega arith, λ h. less-is (suc L) t .1 (omega arith))
+
+pub overfull-passes : (net : Network) (calls : List ℕ) → (overfullRow net calls .number ≡ 0) ↔ ((i : ℕ) → i < rowCount calls → Fits (α calls) (order net) i × Fits (β calls) (order net) i)
+unfolding overfullRow
+overfull-passes net calls = Iff·trans (every-row 7 (rowCount calls) (overfull net calls)) (
+  λ h i l. fits-is net calls i .0 (h i l),
+  λ h i l. fits-is net calls i .1 (h i l),
+)
+
+module _ (f : ℕ → ℕ) (ord : List ℕ) where
+  -- if no row overfills its module, no module is overfull
+  pub rows-modules : (k : ℕ) → ((i : ℕ) → i < k → Fits f ord i) → (v : ℕ) → length (atModule f k v) ≤ length ord
+  unfolding rowsBelow
+  rows-modules zero h v = omega arith
+  rows-modules (suc k) h v = go (ℕ-discrete (f k) v) (rows-modules k (λ i l. h i (omega arith)) v)
+    where
+      go : Dec (f k ≡ v) → length (atModule f k v) ≤ length ord → length (atModule f (suc k) v) ≤ length ord
+      go (yes e) m = rw (← e) (h k (omega arith))
+      go (no n) m = rw (count-next f k v, ne-eqb (f k) v n) m
+
+  -- a module has as many calls at least as it had among fewer rows
+  count-grows : (v j k : ℕ) → j ≤ k → length (atModule f j v) ≤ length (atModule f k v)
+  count-grows v j k l = le-ind (λ t. length (atModule f j v) ≤ length (atModule f t v)) (omega arith) (λ t q m. step t m (ℕ-discrete (f t) v)) k l
+    where
+      step : (t : ℕ) → length (atModule f j v) ≤ length (atModule f t v) → Dec (f t ≡ v) → length (atModule f j v) ≤ length (atModule f (suc t) v)
+      step t m (yes e) = rw (count-next f t v, eq-eqb (f t) v e) (omega arith)
+      step t m (no n) = rw (count-next f t v, ne-eqb (f t) v n) m
+
+  -- and the other way round
+  pub modules-rows : (k : ℕ) → ((v : ℕ) → length (atModule f k v) ≤ length ord) → (i : ℕ) → i < k → Fits f ord i
+  modules-rows k h i l = omega (arith, count-grows (f i) (suc i) k l, h (f i))
+
+pub none-overfull-passes : (net : Network) (calls : List ℕ) → (overfullRow net calls .number ≡ 0) ↔ NoneOverfull net calls
+none-overfull-passes net calls = Iff·trans (overfull-passes net calls) (
+  (λ h output v. sides h output v),
+  (λ h i l. (modules-rows (α calls) (order net) (rowCount calls) (h false) i l, modules-rows (β calls) (order net) (rowCount calls) (h true) i l)),
+)
+  where
+    sides : ((i : ℕ) → i < rowCount calls → Fits (α calls) (order net) i × Fits (β calls) (order net) i) → (output : Bool) (v : ℕ) → length (atModule (moduleOf calls output) (rowCount calls) v) ≤ length (order net)
+    sides h true v = rows-modules (β calls) (order net) (rowCount calls) (λ i l. h i l .1) v
+    sides h false v = rows-modules (α calls) (order net) (rowCount calls) (λ i l. h i l .0) v
