@@ -1,4 +1,5 @@
 -- One placement, as the code does it, is one step of the choice rule, and leaves the record right at every module.
+--   Searched net calls centrals used k a b == no central is common, and a and b are what the searches found
 use mathlib.Core.Path.{_≡_, refl, sym, ap, _∙_}
 use mathlib.Core.Logic.{_⊎_, inl, inr}
 use mathlib.Core.Bool.{Bool, true, false, not, cond, _&&_, true≢false, false≢true}
@@ -25,7 +26,7 @@ use Rattle.choice.specs.Count.{some-free}
 use Rattle.choice.specs.StepLaws.{ChainStart, stepChain, afterChain, step-common, step-by-chain, searched, starts, chain-bound}
 use Rattle.choice.specs.Use.{stepEnd, stepAcross, across-parity, end-below, end-bound, use-placed, use-chain-α, use-chain-β}
 use Rattle.choice.specs.Order.{upFrom, order, order-own, order-distinct}
-use Rattle.choice.specs.Record.{placeOf, inUse, bothFree, taking, swapping, foundBelow, Placeable, Placed}
+use Rattle.choice.specs.Record.{placeOf, inUse, bothFree, taking, swapping, foundBelow, Placeable, Placed, NoCommon}
 use Rattle.choice.specs.RecordLaws.{useOf, sameSide, use-taking, use-swapping, taking-size, swapping-size}
 use Rattle.choice.specs.Walk.{Walked, found-there, found-nothing}
 
@@ -155,108 +156,123 @@ module _ (net : Network) (calls centrals used : List ℕ) (k : ℕ) (h : Placeab
   pub first-small : (c : ℕ) → c < net .m → c < mostCentrals
   first-small c l = let z = limits-are net .0 (h .limits) in omega arith
 
-  module _ (common a b : ℕ)
-      (no-common : firstOf (upFrom 0 (net .m)) (bothFree used (placeOf false (α calls k)) (placeOf true (β calls k))) ≡ foundBelow (net .m) common) (n : net .m ≤ common)
-      (first-a : firstOf (upFrom 0 (net .m)) (bothFree used (placeOf false (α calls k)) (placeOf false (α calls k))) ≡ foundBelow (net .m) a) (la : a < net .m)
-      (first-b : firstOf (upFrom 0 (net .m)) (bothFree used (placeOf true (β calls k)) (placeOf true (β calls k))) ≡ foundBelow (net .m) b) (lb : b < net .m) where
-    none-common : firstOf (order net) (λ x. isFree (α calls) (at centrals) k (α calls k) x && isFree (β calls) (at centrals) k (β calls k) x) ≡ none
-    none-common = sym (search-both false true) ∙ no-common ∙ found-nothing (net .m) common n
+-- No central is free at both modules of row k, and a and b are the first that are free at each.
+pub record Searched (net : Network) (calls centrals used : List ℕ) (k a b : ℕ) : Type 0 where
+  pub placeable : Placeable net calls centrals used k
+  pub nothing-common : NoCommon net calls used k
+  pub first-a : firstOf (upFrom 0 (net .m)) (bothFree used (placeOf false (α calls k)) (placeOf false (α calls k))) ≡ foundBelow (net .m) a
+  pub first-b : firstOf (upFrom 0 (net .m)) (bothFree used (placeOf true (β calls k)) (placeOf true (β calls k))) ≡ foundBelow (net .m) b
+  pub own-a : a < net .m
+  pub own-b : b < net .m
 
-    a-is : firstOf (order net) (isFree (α calls) (at centrals) k (α calls k)) ≡ some a
-    a-is = sym (search-one false) ∙ first-a ∙ found-there (net .m) a la
+module _ {net : Network} {calls centrals used : List ℕ} {k a b : ℕ} (s : Searched net calls centrals used k a b) where
+  h : Placeable net calls centrals used k
+  h = s .placeable
 
-    b-is : firstOf (order net) (isFree (β calls) (at centrals) k (β calls k)) ≡ some b
-    b-is = sym (search-one true) ∙ first-b ∙ found-there (net .m) b lb
+  none-common : firstOf (order net) (λ x. isFree (α calls) (at centrals) k (α calls k) x && isFree (β calls) (at centrals) k (β calls k) x) ≡ none
+  none-common = sym (search-both net calls centrals used k h false true) ∙ s .nothing-common .searched ∙ found-nothing (net .m) _ (s .nothing-common .none-below)
 
-    free-both : In a (order net) × In b (order net) × Free (α calls) (at centrals) k (α calls k) a × Free (β calls) (at centrals) k (β calls k) b × (Free (β calls) (at centrals) k (β calls k) a → ⊥)
-    free-both = searched (α calls) (β calls) (order net) centrals k a b none-common a-is b-is
+  a-is : firstOf (order net) (isFree (α calls) (at centrals) k (α calls k)) ≡ some a
+  a-is = sym (search-one net calls centrals used k h false) ∙ s .first-a ∙ found-there (net .m) a (s .own-a)
 
-    start : ChainStart (α calls) (β calls) (at centrals) k a b
-    start = starts (α calls) (β calls) (order net) centrals k (h .fine) (free-both .2) (free-both .3) (free-both .4)
+  b-is : firstOf (order net) (isFree (β calls) (at centrals) k (β calls k)) ≡ some b
+  b-is = sym (search-one net calls centrals used k h true) ∙ s .first-b ∙ found-there (net .m) b (s .own-b)
 
-    -- with the modules of both sides as its bound the walk is the whole chain
-    module _ (centrals₁ : List ℕ) (w : Walk) (walked : Walked (β calls) (α calls) k (β calls k) a b (2 * net .r) centrals centrals₁ w) where
-      whole : chain (2 * net .r) (β calls) (α calls) (at centrals) k (β calls k) a b ≡ stepChain (α calls) (β calls) (at centrals) k a b
-      whole = chain-bound (α calls) (β calls) (at centrals) k a b start (net .r) (h .modules) (2 * net .r) (omega arith)
+  free-both : In a (order net) × In b (order net) × Free (α calls) (at centrals) k (α calls k) a × Free (β calls) (at centrals) k (β calls k) b × (Free (β calls) (at centrals) k (β calls k) a → ⊥)
+  free-both = searched (α calls) (β calls) (order net) centrals k a b none-common a-is b-is
 
-      last-is : w .last ≡ stepEnd (α calls) (β calls) (at centrals) k a b
-      last-is = walked .last ∙ end-bound (α calls) (β calls) (at centrals) k a b start (net .r) (h .modules) (2 * net .r) (omega arith)
+  start : ChainStart (α calls) (β calls) (at centrals) k a b
+  start = starts (α calls) (β calls) (order net) centrals k (h .fine) (free-both .2) (free-both .3) (free-both .4)
 
-      moved-is : w .moved ≡ length (stepChain (α calls) (β calls) (at centrals) k a b)
-      moved-is = walked .moved ∙ ap length whole
+  pub small-a : a < mostCentrals
+  small-a = first-small net calls centrals used k h a (s .own-a)
 
-      pub last-small : w .last < mostModules
-      last-small =
-          let l = limits-are net .0 (h .limits) in
-          omega (arith, last-is, end-below k (β calls) (α calls) (at centrals) k (β calls k) a b (net .r) (λ i q. let m = h .modules i (omega arith) in (m .1, m .0)) (h .modules k (omega arith) .1))
+  pub small-b : b < mostCentrals
+  small-b = first-small net calls centrals used k h b (s .own-b)
 
-      -- the chain ends at an output module where it has an even number of calls
-      even-is : eqb (w .moved % 2) 0 ≡ not (stepAcross (α calls) (β calls) (at centrals) k a b)
-      even-is = ap (λ (t : ℕ). eqb (t % 2) 0) moved-is ∙ parity (length (stepChain (α calls) (β calls) (at centrals) k a b)) ∙ ap not (sym (across-parity k (β calls) (α calls) (at centrals) k (β calls k) a b))
-        where
-          parity : (t : ℕ) → eqb (t % 2) 0 ≡ not (eqb (t % 2) 1)
-          parity t = go (ℕ-discrete (t % 2) 0)
-            where
-              go : Dec (t % 2 ≡ 0) → eqb (t % 2) 0 ≡ not (eqb (t % 2) 1)
-              go (yes e) = rw (eq-eqb (t % 2) 0 e, ne-eqb (t % 2) 1 (λ q. omega arith))
-              go (no m) = rw (ne-eqb (t % 2) 0 m, eq-eqb (t % 2) 1 (omega arith))
+  -- with the modules of both sides as its bound the walk is the whole chain
+  module _ {centrals₁ : List ℕ} {w : Walk} (walked : Walked (β calls) (α calls) k (β calls k) a b (2 * net .r) centrals centrals₁ w) where
+    whole : chain (2 * net .r) (β calls) (α calls) (at centrals) k (β calls k) a b ≡ stepChain (α calls) (β calls) (at centrals) k a b
+    whole = chain-bound (α calls) (β calls) (at centrals) k a b start (net .r) (h .modules) (2 * net .r) (omega arith)
 
-      abbrev exchangedRecord : List ℕ
-      exchangedRecord = swapping used (placeOf (eqb (w .moved % 2) 0) (w .last)) a b
+    last-is : w .last ≡ stepEnd (α calls) (β calls) (at centrals) k a b
+    last-is = walked .last ∙ end-bound (α calls) (β calls) (at centrals) k a b start (net .r) (h .modules) (2 * net .r) (omega arith)
 
-      abbrev used′ : List ℕ
-      used′ = taking (taking exchangedRecord (placeOf true (β calls k)) b) (placeOf false (α calls k)) a
+    moved-is : w .moved ≡ length (stepChain (α calls) (β calls) (at centrals) k a b)
+    moved-is = walked .moved ∙ ap length whole
 
-      step-is : step (α calls) (β calls) (order net) centrals k ≡ record { centrals = afterChain (α calls) (β calls) centrals k a b; moved = stepChain (α calls) (β calls) (at centrals) k a b }
-      step-is = step-by-chain (α calls) (β calls) (order net) centrals k a b none-common a-is b-is
+    pub last-small : w .last < mostModules
+    last-small =
+        let l = limits-are net .0 (h .limits) in
+        omega (arith, last-is, end-below k (β calls) (α calls) (at centrals) k (β calls k) a b (net .r) (λ i q. let m = h .modules i (omega arith) in (m .1, m .0)) (h .modules k (omega arith) .1))
 
-      centrals-are : set centrals₁ k a ≡ afterChain (α calls) (β calls) centrals k a b
-      centrals-are = ap (λ (l : List ℕ). set l k a) (walked .changed ∙ ap (exchanged a b centrals) whole)
+    -- the chain ends at an output module where it has an even number of calls
+    even-is : eqb (w .moved % 2) 0 ≡ not (stepAcross (α calls) (β calls) (at centrals) k a b)
+    even-is = ap (λ (t : ℕ). eqb (t % 2) 0) moved-is ∙ parity (length (stepChain (α calls) (β calls) (at centrals) k a b)) ∙ ap not (sym (across-parity k (β calls) (α calls) (at centrals) k (β calls k) a b))
+      where
+        parity : (t : ℕ) → eqb (t % 2) 0 ≡ not (eqb (t % 2) 1)
+        parity t = go (ℕ-discrete (t % 2) 0)
+          where
+            go : Dec (t % 2 ≡ 0) → eqb (t % 2) 0 ≡ not (eqb (t % 2) 1)
+            go (yes e) = rw (eq-eqb (t % 2) 0 e, ne-eqb (t % 2) 1 (λ q. omega arith))
+            go (no m) = rw (ne-eqb (t % 2) 0 m, eq-eqb (t % 2) 1 (omega arith))
 
-      -- the record says what the exchange at the chain's last module leaves
-      exchanged-use : (output : Bool) (v x : ℕ) → v < mostModules → x < mostCentrals
-          → useOf exchangedRecord output v x ≡ not (cond (sameSide output (eqb (w .moved % 2) 0) && eqb v (w .last)) (isFree (moduleOf calls output) (at centrals) k v (exchange a b x)) (isFree (moduleOf calls output) (at centrals) k v x))
-      exchanged-use output v x hv hx =
-          use-swapping used (h .recorded .size) output (eqb (w .moved % 2) 0) v (w .last) x hv last-small hx a b (first-small a la) (first-small b lb)
-          ∙ rw (says output v (exchange a b x) hv (exchange-small (one-of a b x)), says output v x hv hx)
-          (not-cond (sameSide output (eqb (w .moved % 2) 0) && eqb v (w .last)) _ _)
-        where
-          exchange-small : Two a b x ⊎ (Two a b x → ⊥) → exchange a b x < mostCentrals
-          exchange-small (inl (inl e)) = rw (e, exchange-first a b) (first-small b lb)
-          exchange-small (inl (inr e)) = rw (e, exchange-second a b) (first-small a la)
-          exchange-small (inr m) = rw (exchange-other a b x m) hx
+    abbrev exchangedRecord : List ℕ
+    exchangedRecord = swapping used (placeOf (eqb (w .moved % 2) 0) (w .last)) a b
 
-      -- what the rule leaves free, by the walk's own numbers
-      after-α : (v x : ℕ) → isFree (α calls) (at (set centrals₁ k a)) (k + 1) v x
-          ≡ cond (eqb v (α calls k) && eqb x a) false (cond (sameSide false (eqb (w .moved % 2) 0) && eqb v (w .last)) (isFree (α calls) (at centrals) k v (exchange a b x)) (isFree (α calls) (at centrals) k v x))
-      after-α v x =
-          rw (centrals-are, add-one k, even-is, sameSide-false (stepAcross (α calls) (β calls) (at centrals) k a b), last-is)
-          (use-chain-α (α calls) (β calls) centrals k a b (h .row) start (free-both .4) v x)
+    abbrev used′ : List ℕ
+    used′ = taking (taking exchangedRecord (placeOf true (β calls k)) b) (placeOf false (α calls k)) a
 
-      after-β : (v x : ℕ) → isFree (β calls) (at (set centrals₁ k a)) (k + 1) v x
-          ≡ cond (eqb v (β calls k) && eqb x b) false (cond (sameSide true (eqb (w .moved % 2) 0) && eqb v (w .last)) (isFree (β calls) (at centrals) k v (exchange a b x)) (isFree (β calls) (at centrals) k v x))
-      after-β v x =
-          rw (centrals-are, add-one k, even-is, sameSide-true (stepAcross (α calls) (β calls) (at centrals) k a b), last-is)
-          (use-chain-β (α calls) (β calls) centrals k a b (h .row) start (free-both .4) v x)
+    step-is : step (α calls) (β calls) (order net) centrals k ≡ record { centrals = afterChain (α calls) (β calls) centrals k a b; moved = stepChain (α calls) (β calls) (at centrals) k a b }
+    step-is = step-by-chain (α calls) (β calls) (order net) centrals k a b none-common a-is b-is
 
-      pub placed-by-chain : Placed net calls centrals (set centrals₁ k a) used′ k (w .moved)
-      unfolding useOf
-      placed-by-chain = record {
-        by-the-rule = centrals-are ∙ sym (ap (λ s. s .centrals) step-is);
-        moved-is = moved-is ∙ sym (ap (λ s. length (s .moved)) step-is);
-        recorded = record { size = taking-size _ _ a (taking-size _ _ b (swapping-size used _ a b (h .recorded .size))); says = both };
-      }
-        where
-          both : (output : Bool) (v x : ℕ) → v < mostModules → x < mostCentrals → inUse used′ (placeOf output v) x ≡ not (isFree (moduleOf calls output) (at (set centrals₁ k a)) (k + 1) v x)
-          both true v x hv hx =
-              use-taking _ (taking-size _ _ b (swapping-size used _ a b (h .recorded .size))) true false v (α calls k) x hv (small-modules false) hx a (first-small a la)
-              ∙ use-taking _ (swapping-size used _ a b (h .recorded .size)) true true v (β calls k) x hv (small-modules true) hx b (first-small b lb)
-              ∙ ap (cond (eqb v (β calls k) && eqb x b) true) (exchanged-use true v x hv hx)
-              ∙ taken-or (eqb v (β calls k) && eqb x b) _
-              ∙ ap not (sym (after-β v x))
-          both false v x hv hx =
-              use-taking _ (taking-size _ _ b (swapping-size used _ a b (h .recorded .size))) false false v (α calls k) x hv (small-modules false) hx a (first-small a la)
-              ∙ ap (cond (eqb v (α calls k) && eqb x a) true)
-              (use-taking _ (swapping-size used _ a b (h .recorded .size)) false true v (β calls k) x hv (small-modules true) hx b (first-small b lb) ∙ exchanged-use false v x hv hx)
-              ∙ taken-or (eqb v (α calls k) && eqb x a) _
-              ∙ ap not (sym (after-α v x))
+    centrals-are : set centrals₁ k a ≡ afterChain (α calls) (β calls) centrals k a b
+    centrals-are = ap (λ (l : List ℕ). set l k a) (walked .changed ∙ ap (exchanged a b centrals) whole)
+
+    -- the record says what the exchange at the chain's last module leaves
+    exchanged-use : (output : Bool) (v x : ℕ) → v < mostModules → x < mostCentrals
+        → useOf exchangedRecord output v x ≡ not (cond (sameSide output (eqb (w .moved % 2) 0) && eqb v (w .last)) (isFree (moduleOf calls output) (at centrals) k v (exchange a b x)) (isFree (moduleOf calls output) (at centrals) k v x))
+    exchanged-use output v x hv hx =
+        use-swapping used (h .recorded .size) output (eqb (w .moved % 2) 0) v (w .last) x hv last-small hx a b (small-a) (small-b)
+        ∙ rw (says net calls centrals used k h output v (exchange a b x) hv (exchange-small (one-of a b x)), says net calls centrals used k h output v x hv hx)
+        (not-cond (sameSide output (eqb (w .moved % 2) 0) && eqb v (w .last)) _ _)
+      where
+        exchange-small : Two a b x ⊎ (Two a b x → ⊥) → exchange a b x < mostCentrals
+        exchange-small (inl (inl e)) = rw (e, exchange-first a b) (small-b)
+        exchange-small (inl (inr e)) = rw (e, exchange-second a b) (small-a)
+        exchange-small (inr m) = rw (exchange-other a b x m) hx
+
+    -- what the rule leaves free, by the walk's own numbers
+    after-α : (v x : ℕ) → isFree (α calls) (at (set centrals₁ k a)) (k + 1) v x
+        ≡ cond (eqb v (α calls k) && eqb x a) false (cond (sameSide false (eqb (w .moved % 2) 0) && eqb v (w .last)) (isFree (α calls) (at centrals) k v (exchange a b x)) (isFree (α calls) (at centrals) k v x))
+    after-α v x =
+        rw (centrals-are, add-one k, even-is, sameSide-false (stepAcross (α calls) (β calls) (at centrals) k a b), last-is)
+        (use-chain-α (α calls) (β calls) centrals k a b (h .row) start (free-both .4) v x)
+
+    after-β : (v x : ℕ) → isFree (β calls) (at (set centrals₁ k a)) (k + 1) v x
+        ≡ cond (eqb v (β calls k) && eqb x b) false (cond (sameSide true (eqb (w .moved % 2) 0) && eqb v (w .last)) (isFree (β calls) (at centrals) k v (exchange a b x)) (isFree (β calls) (at centrals) k v x))
+    after-β v x =
+        rw (centrals-are, add-one k, even-is, sameSide-true (stepAcross (α calls) (β calls) (at centrals) k a b), last-is)
+        (use-chain-β (α calls) (β calls) centrals k a b (h .row) start (free-both .4) v x)
+
+    pub placed-by-chain : Placed net calls centrals (set centrals₁ k a) used′ k (w .moved)
+    unfolding useOf
+    placed-by-chain = record {
+      by-the-rule = centrals-are ∙ sym (ap (λ t. t .centrals) step-is);
+      moved-is = moved-is ∙ sym (ap (λ t. length (t .moved)) step-is);
+      recorded = record { size = taking-size _ _ a (taking-size _ _ b (swapping-size used _ a b (h .recorded .size))); says = both };
+    }
+      where
+        both : (output : Bool) (v x : ℕ) → v < mostModules → x < mostCentrals → inUse used′ (placeOf output v) x ≡ not (isFree (moduleOf calls output) (at (set centrals₁ k a)) (k + 1) v x)
+        both true v x hv hx =
+            use-taking _ (taking-size _ _ b (swapping-size used _ a b (h .recorded .size))) true false v (α calls k) x hv (small-modules net calls centrals used k h false) hx a (small-a)
+            ∙ use-taking _ (swapping-size used _ a b (h .recorded .size)) true true v (β calls k) x hv (small-modules net calls centrals used k h true) hx b (small-b)
+            ∙ ap (cond (eqb v (β calls k) && eqb x b) true) (exchanged-use true v x hv hx)
+            ∙ taken-or (eqb v (β calls k) && eqb x b) _
+            ∙ ap not (sym (after-β v x))
+        both false v x hv hx =
+            use-taking _ (taking-size _ _ b (swapping-size used _ a b (h .recorded .size))) false false v (α calls k) x hv (small-modules net calls centrals used k h false) hx a (small-a)
+            ∙ ap (cond (eqb v (α calls k) && eqb x a) true)
+            (use-taking _ (swapping-size used _ a b (h .recorded .size)) false true v (β calls k) x hv (small-modules net calls centrals used k h true) hx b (small-b) ∙ exchanged-use false v x hv hx)
+            ∙ taken-or (eqb v (α calls k) && eqb x a) _
+            ∙ ap not (sym (after-α v x))

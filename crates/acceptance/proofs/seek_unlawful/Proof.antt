@@ -1,19 +1,17 @@
 -- `acceptance::seek_unlawful` meets its contract. The loop's invariant: the records hold the pairs of the rows passed so far,
 -- and none of those rows is refused.
 use mathlib.Core.Path.{_≡_, refl, sym, ap, _∙_}
-use mathlib.Core.Bool.{true}
-use Prim.Native.Nat.{_≤_, _<_, _-_}
+use Prim.Native.Nat.{_≤_, _-_}
 use native.Mathlib.Nat.{le-antisymm}
 use native.Mathlib.Omega.{arith}
 use borrow.Author.Needs.{needs}
 use lib.ListN.{length}
 use Rattle.shelf.specs.Network.{mostModules, mostCentrals}
-use Rattle.shelf.specs.NetworkLaws.{limits-are}
 use Rattle.shelf.specs.Rows.{rowCount, α, β}
 use Rattle.calls.specs.Verdict.{passed, seekRows}
 use Rattle.calls.specs.Use.{blank, marks, length-marks}
 use Rattle.acceptance.specs.Acceptance.{rowVerdict, unlawfulRow}
-use Rattle.acceptance.specs.Pairs.{pairs, pairSlots, light-refuses, pair-room, pair-told, pair-marked, twelve, thirteen, row-passes}
+use Rattle.acceptance.specs.Pairs.{pairs, pairSlots, Judged, light-refuses, input-room, output-room, input-told, output-told, twelve, thirteen, row-passes}
 use Rattle.acceptance.proofs.seek_unlawful.Statement.{statement}
 use Rattle.acceptance.proofs.seek_unlawful.Tie as tie
 
@@ -42,22 +40,22 @@ judge-light-requires : tie.Need-judge-light-requires Inv-loop μ-loop
 unfolding rowCount
 judge-light-requires c κs = rw (c .before .at .ensures .input-module) (c .before .before .before .before .before .before .pre .2 _ (c .before .before .loop-test .taken) .own-α)
 
--- the modules of the row, in the largest network
-small-input : (c : tie.After-at2 Inv-loop μ-loop) → c .before .at .result .«input_module» < mostModules
+-- the row as it was read, and its light
+judged : (c : tie.After-judge-light Inv-loop μ-loop) → Judged (c .before .before .before .before .before .before .before .args .net) (c .before .before .before .before .before .before .before .args .calls .now) (c .before .before .before .before .before .before .before .args .settings .now)
+    (c .before .before .before .before .loop .row) (c .before .before .at .result) (c .before .at2 .result) (c .judge-light .result)
 unfolding rowCount
-small-input c =
-    let l = limits-are _ .0 (c .before .before .before .before .before .before .pre .0) in
-    omega (arith, c .before .at .ensures .input-module, c .before .before .before .before .before .before .pre .2 _ (c .before .before .loop-test .taken) .own-α)
-
-small-output : (c : tie.After-at2 Inv-loop μ-loop) → c .before .at .result .«output_module» < mostModules
-unfolding rowCount
-small-output c =
-    let l = limits-are _ .0 (c .before .before .before .before .before .before .pre .0) in
-    omega (arith, c .before .at .ensures .output-module, c .before .before .before .before .before .before .pre .2 _ (c .before .before .loop-test .taken) .own-β)
+judged c = record {
+  limits = c .before .before .before .before .before .before .before .pre .0;
+  below = c .before .before .before .loop-test .taken;
+  so-far = c .before .before .before .before .loop .inv .3;
+  call-read = c .before .before .at .ensures;
+  settings-read = c .before .at2 .ensures;
+  inside = c .before .before .before .before .before .before .before .pre .2 _ (c .before .before .before .loop-test .taken);
+  told = c .judge-light .ensures;
+}
 
 returns : tie.Need-returns Inv-loop μ-loop
-unfolding rowCount
-returns c = light-refuses _ _ _ _ (c .before .before .before .before .before .before .before .before .before .pre .0) (c .before .before .before .before .before .loop-test .taken) (c .before .before .before .before .before .before .loop .inv .3) _ _ (c .before .before .before .before .at .ensures) (c .before .before .before .at2 .ensures) _ (c .before .before .judge-light .ensures) (c .if1 .taken)
+returns c = light-refuses (judged (c .before .before)) (c .if1 .taken)
 
 slice-aggregate-mark : tie.Need-slice-aggregate-mark Inv-loop μ-loop
 unfolding pairs mostModules mostCentrals
@@ -70,12 +68,12 @@ add-mark : tie.Need-add-mark Inv-loop μ-loop
 add-mark c = search needs
 
 mark-requires : tie.Need-mark-requires Inv-loop μ-loop
-unfolding rowCount mostCentrals
-mark-requires c κs = rw (c .before .before .before .before .before .before .before .before .before .loop .inv .1, length-marks pairs) (pair-room _ _ _ _ (c .before .before .before .before .before .before .before .before .before .before .before .before .pre .0) (c .before .before .before .before .before .before .before .before .loop-test .taken) (c .before .before .before .before .before .before .before .before .before .loop .inv .3) _ _ (c .before .before .before .before .before .before .before .at .ensures) (c .before .before .before .before .before .before .at2 .ensures) _ (c .before .before .before .before .before .judge-light .ensures) (c .before .before .before .if1 .left) (α _) _ (c .before .before .before .before .before .before .before .at .ensures .input-module) (small-input (c .before .before .before .before .before .before)))
+unfolding mostCentrals
+mark-requires c κs = rw (c .before .before .before .before .before .before .before .before .before .loop .inv .1, length-marks pairs) (input-room (judged (c .before .before .before .before .before)) (c .before .before .before .if1 .left))
 
 returns-2 : tie.Need-returns-2 Inv-loop μ-loop
-unfolding rowCount mostCentrals
-returns-2 c = twelve _ _ _ _ (c .before .before .before .before .before .before .before .before .before .before .before .before .before .before .before .pre .0) (c .before .before .before .before .before .before .before .before .before .before .before .loop-test .taken) (c .before .before .before .before .before .before .before .before .before .before .before .before .loop .inv .3) _ _ (c .before .before .before .before .before .before .before .before .before .before .at .ensures) (c .before .before .before .before .before .before .before .before .before .at2 .ensures) _ (c .before .before .before .before .before .before .before .before .judge-light .ensures) (c .before .before .before .before .before .before .if1 .left) _ true (pair-told _ _ _ _ (c .before .before .before .before .before .before .before .before .before .before .before .before .before .before .before .pre .0) (c .before .before .before .before .before .before .before .before .before .before .before .loop-test .taken) (c .before .before .before .before .before .before .before .before .before .before .before .before .loop .inv .3) _ _ (c .before .before .before .before .before .before .before .before .before .before .at .ensures) (c .before .before .before .before .before .before .before .before .before .at2 .ensures) _ (c .before .before .before .before .before .before .before .before .judge-light .ensures) (c .before .before .before .before .before .before .if1 .left) (α _) _ (c .before .before .before .before .before .before .before .before .before .before .at .ensures .input-module) (small-input (c .before .before .before .before .before .before .before .before .before)) _ _ _ (c .before .before .before .before .before .before .before .before .before .before .before .before .loop .inv .1) (c .before .before .mark .ensures)) (c .if2 .taken)
+unfolding mostCentrals
+returns-2 c = twelve (judged (c .before .before .before .before .before .before .before .before)) (c .before .before .before .before .before .before .if1 .left) (input-told (judged (c .before .before .before .before .before .before .before .before)) (c .before .before .before .before .before .before .if1 .left) (c .before .before .before .before .before .before .before .before .before .before .before .before .loop .inv .1) (c .before .before .mark .ensures) .0) (c .if2 .taken)
 
 slice-aggregate-mark-2 : tie.Need-slice-aggregate-mark-2 Inv-loop μ-loop
 unfolding pairs mostModules mostCentrals
@@ -88,12 +86,12 @@ add-mark-2 : tie.Need-add-mark-2 Inv-loop μ-loop
 add-mark-2 c = search needs
 
 mark-requires-2 : tie.Need-mark-requires-2 Inv-loop μ-loop
-unfolding rowCount mostCentrals
-mark-requires-2 c κs = rw (c .before .before .before .before .before .before .before .before .before .before .before .before .before .before .before .loop .inv .2, length-marks pairs) (pair-room _ _ _ _ (c .before .before .before .before .before .before .before .before .before .before .before .before .before .before .before .before .before .before .pre .0) (c .before .before .before .before .before .before .before .before .before .before .before .before .before .before .loop-test .taken) (c .before .before .before .before .before .before .before .before .before .before .before .before .before .before .before .loop .inv .3) _ _ (c .before .before .before .before .before .before .before .before .before .before .before .before .before .at .ensures) (c .before .before .before .before .before .before .before .before .before .before .before .before .at2 .ensures) _ (c .before .before .before .before .before .before .before .before .before .before .before .judge-light .ensures) (c .before .before .before .before .before .before .before .before .before .if1 .left) (β _) _ (c .before .before .before .before .before .before .before .before .before .before .before .before .before .at .ensures .output-module) (small-output (c .before .before .before .before .before .before .before .before .before .before .before .before)))
+unfolding mostCentrals
+mark-requires-2 c κs = rw (c .before .before .before .before .before .before .before .before .before .before .before .before .before .before .before .loop .inv .2, length-marks pairs) (output-room (judged (c .before .before .before .before .before .before .before .before .before .before .before)) (c .before .before .before .before .before .before .before .before .before .if1 .left))
 
 returns-3 : tie.Need-returns-3 Inv-loop μ-loop
-unfolding rowCount mostCentrals
-returns-3 c = thirteen _ _ _ _ (c .before .before .before .before .before .before .before .before .before .before .before .before .before .before .before .before .before .before .before .before .before .pre .0) (c .before .before .before .before .before .before .before .before .before .before .before .before .before .before .before .before .before .loop-test .taken) (c .before .before .before .before .before .before .before .before .before .before .before .before .before .before .before .before .before .before .loop .inv .3) _ _ (c .before .before .before .before .before .before .before .before .before .before .before .before .before .before .before .before .at .ensures) (c .before .before .before .before .before .before .before .before .before .before .before .before .before .before .before .at2 .ensures) _ (c .before .before .before .before .before .before .before .before .before .before .before .before .before .before .judge-light .ensures) (c .before .before .before .before .before .before .before .before .before .before .before .before .if1 .left) _ _ (pair-told _ _ _ _ (c .before .before .before .before .before .before .before .before .before .before .before .before .before .before .before .before .before .before .before .before .before .pre .0) (c .before .before .before .before .before .before .before .before .before .before .before .before .before .before .before .before .before .loop-test .taken) (c .before .before .before .before .before .before .before .before .before .before .before .before .before .before .before .before .before .before .loop .inv .3) _ _ (c .before .before .before .before .before .before .before .before .before .before .before .before .before .before .before .before .at .ensures) (c .before .before .before .before .before .before .before .before .before .before .before .before .before .before .before .at2 .ensures) _ (c .before .before .before .before .before .before .before .before .before .before .before .before .before .before .judge-light .ensures) (c .before .before .before .before .before .before .before .before .before .before .before .before .if1 .left) (α _) _ (c .before .before .before .before .before .before .before .before .before .before .before .before .before .before .before .before .at .ensures .input-module) (small-input (c .before .before .before .before .before .before .before .before .before .before .before .before .before .before .before)) _ _ _ (c .before .before .before .before .before .before .before .before .before .before .before .before .before .before .before .before .before .before .loop .inv .1) (c .before .before .before .before .before .before .before .before .mark .ensures)) (pair-told _ _ _ _ (c .before .before .before .before .before .before .before .before .before .before .before .before .before .before .before .before .before .before .before .before .before .pre .0) (c .before .before .before .before .before .before .before .before .before .before .before .before .before .before .before .before .before .loop-test .taken) (c .before .before .before .before .before .before .before .before .before .before .before .before .before .before .before .before .before .before .loop .inv .3) _ _ (c .before .before .before .before .before .before .before .before .before .before .before .before .before .before .before .before .at .ensures) (c .before .before .before .before .before .before .before .before .before .before .before .before .before .before .before .at2 .ensures) _ (c .before .before .before .before .before .before .before .before .before .before .before .before .before .before .judge-light .ensures) (c .before .before .before .before .before .before .before .before .before .before .before .before .if1 .left) (β _) _ (c .before .before .before .before .before .before .before .before .before .before .before .before .before .before .before .before .at .ensures .output-module) (small-output (c .before .before .before .before .before .before .before .before .before .before .before .before .before .before .before)) _ _ _ (c .before .before .before .before .before .before .before .before .before .before .before .before .before .before .before .before .before .before .loop .inv .2) (c .before .before .mark2 .ensures)) (c .before .before .before .before .before .before .if2 .left) (c .if3 .taken)
+unfolding mostCentrals
+returns-3 c = thirteen (judged (c .before .before .before .before .before .before .before .before .before .before .before .before .before .before)) (c .before .before .before .before .before .before .before .before .before .before .before .before .if1 .left) (input-told (judged (c .before .before .before .before .before .before .before .before .before .before .before .before .before .before)) (c .before .before .before .before .before .before .before .before .before .before .before .before .if1 .left) (c .before .before .before .before .before .before .before .before .before .before .before .before .before .before .before .before .before .before .loop .inv .1) (c .before .before .before .before .before .before .before .before .mark .ensures) .0) (output-told (judged (c .before .before .before .before .before .before .before .before .before .before .before .before .before .before)) (c .before .before .before .before .before .before .before .before .before .before .before .before .if1 .left) (c .before .before .before .before .before .before .before .before .before .before .before .before .before .before .before .before .before .before .loop .inv .2) (c .before .before .mark2 .ensures) .0) (c .before .before .before .before .before .before .if2 .left) (c .if3 .taken)
 
 add-row : tie.Need-add-row Inv-loop μ-loop
 add-row c = omega (arith, c .before .before .before .before .before .before .before .before .before .before .before .before .before .before .before .before .before .before .before .before .before .good .1 .0 .0)
@@ -102,13 +100,12 @@ loop-less : tie.Need-loop-less Inv-loop μ-loop
 loop-less c = omega arith
 
 loop-again : tie.Need-loop-again Inv-loop μ-loop
-unfolding rowCount mostCentrals
-loop-again c = (
-  omega arith,
-  pair-marked _ _ _ _ (c .before .before .before .before .before .before .before .before .before .before .before .before .before .before .before .before .before .before .before .before .before .pre .0) (c .before .before .before .before .before .before .before .before .before .before .before .before .before .before .before .before .before .loop-test .taken) (c .before .before .before .before .before .before .before .before .before .before .before .before .before .before .before .before .before .before .loop .inv .3) _ _ (c .before .before .before .before .before .before .before .before .before .before .before .before .before .before .before .before .at .ensures) (c .before .before .before .before .before .before .before .before .before .before .before .before .before .before .before .at2 .ensures) _ (c .before .before .before .before .before .before .before .before .before .before .before .before .before .before .judge-light .ensures) (c .before .before .before .before .before .before .before .before .before .before .before .before .if1 .left) (α _) _ (c .before .before .before .before .before .before .before .before .before .before .before .before .before .before .before .before .at .ensures .input-module) (small-input (c .before .before .before .before .before .before .before .before .before .before .before .before .before .before .before)) _ _ _ (c .before .before .before .before .before .before .before .before .before .before .before .before .before .before .before .before .before .before .loop .inv .1) (c .before .before .before .before .before .before .before .before .mark .ensures),
-  pair-marked _ _ _ _ (c .before .before .before .before .before .before .before .before .before .before .before .before .before .before .before .before .before .before .before .before .before .pre .0) (c .before .before .before .before .before .before .before .before .before .before .before .before .before .before .before .before .before .loop-test .taken) (c .before .before .before .before .before .before .before .before .before .before .before .before .before .before .before .before .before .before .loop .inv .3) _ _ (c .before .before .before .before .before .before .before .before .before .before .before .before .before .before .before .before .at .ensures) (c .before .before .before .before .before .before .before .before .before .before .before .before .before .before .before .at2 .ensures) _ (c .before .before .before .before .before .before .before .before .before .before .before .before .before .before .judge-light .ensures) (c .before .before .before .before .before .before .before .before .before .before .before .before .if1 .left) (β _) _ (c .before .before .before .before .before .before .before .before .before .before .before .before .before .before .before .before .at .ensures .output-module) (small-output (c .before .before .before .before .before .before .before .before .before .before .before .before .before .before .before)) _ _ _ (c .before .before .before .before .before .before .before .before .before .before .before .before .before .before .before .before .before .before .loop .inv .2) (c .before .before .mark2 .ensures),
-  row-passes _ _ _ _ (c .before .before .before .before .before .before .before .before .before .before .before .before .before .before .before .before .before .before .before .before .before .pre .0) (c .before .before .before .before .before .before .before .before .before .before .before .before .before .before .before .before .before .loop-test .taken) (c .before .before .before .before .before .before .before .before .before .before .before .before .before .before .before .before .before .before .loop .inv .3) _ _ (c .before .before .before .before .before .before .before .before .before .before .before .before .before .before .before .before .at .ensures) (c .before .before .before .before .before .before .before .before .before .before .before .before .before .before .before .at2 .ensures) _ (c .before .before .before .before .before .before .before .before .before .before .before .before .before .before .judge-light .ensures) (c .before .before .before .before .before .before .before .before .before .before .before .before .if1 .left) _ _ (pair-told _ _ _ _ (c .before .before .before .before .before .before .before .before .before .before .before .before .before .before .before .before .before .before .before .before .before .pre .0) (c .before .before .before .before .before .before .before .before .before .before .before .before .before .before .before .before .before .loop-test .taken) (c .before .before .before .before .before .before .before .before .before .before .before .before .before .before .before .before .before .before .loop .inv .3) _ _ (c .before .before .before .before .before .before .before .before .before .before .before .before .before .before .before .before .at .ensures) (c .before .before .before .before .before .before .before .before .before .before .before .before .before .before .before .at2 .ensures) _ (c .before .before .before .before .before .before .before .before .before .before .before .before .before .before .judge-light .ensures) (c .before .before .before .before .before .before .before .before .before .before .before .before .if1 .left) (α _) _ (c .before .before .before .before .before .before .before .before .before .before .before .before .before .before .before .before .at .ensures .input-module) (small-input (c .before .before .before .before .before .before .before .before .before .before .before .before .before .before .before)) _ _ _ (c .before .before .before .before .before .before .before .before .before .before .before .before .before .before .before .before .before .before .loop .inv .1) (c .before .before .before .before .before .before .before .before .mark .ensures)) (pair-told _ _ _ _ (c .before .before .before .before .before .before .before .before .before .before .before .before .before .before .before .before .before .before .before .before .before .pre .0) (c .before .before .before .before .before .before .before .before .before .before .before .before .before .before .before .before .before .loop-test .taken) (c .before .before .before .before .before .before .before .before .before .before .before .before .before .before .before .before .before .before .loop .inv .3) _ _ (c .before .before .before .before .before .before .before .before .before .before .before .before .before .before .before .before .at .ensures) (c .before .before .before .before .before .before .before .before .before .before .before .before .before .before .before .at2 .ensures) _ (c .before .before .before .before .before .before .before .before .before .before .before .before .before .before .judge-light .ensures) (c .before .before .before .before .before .before .before .before .before .before .before .before .if1 .left) (β _) _ (c .before .before .before .before .before .before .before .before .before .before .before .before .before .before .before .before .at .ensures .output-module) (small-output (c .before .before .before .before .before .before .before .before .before .before .before .before .before .before .before)) _ _ _ (c .before .before .before .before .before .before .before .before .before .before .before .before .before .before .before .before .before .before .loop .inv .2) (c .before .before .mark2 .ensures)) (c .before .before .before .before .before .before .if2 .left) (c .if3 .left),
-)
+unfolding mostCentrals
+loop-again c =
+    let j = (judged (c .before .before .before .before .before .before .before .before .before .before .before .before .before .before)) in
+    let input = input-told j (c .before .before .before .before .before .before .before .before .before .before .before .before .if1 .left) (c .before .before .before .before .before .before .before .before .before .before .before .before .before .before .before .before .before .before .loop .inv .1) (c .before .before .before .before .before .before .before .before .mark .ensures) in
+    let output = output-told j (c .before .before .before .before .before .before .before .before .before .before .before .before .if1 .left) (c .before .before .before .before .before .before .before .before .before .before .before .before .before .before .before .before .before .before .loop .inv .2) (c .before .before .mark2 .ensures) in
+    (omega arith, input .1, output .1, row-passes j (c .before .before .before .before .before .before .before .before .before .before .before .before .if1 .left) (input .0) (output .0) (c .before .before .before .before .before .before .if2 .left) (c .if3 .left))
 
 returns-4 : tie.Need-returns-4 Inv-loop μ-loop
 unfolding unlawfulRow rowCount passed
