@@ -1,0 +1,71 @@
+-- `planfile::copy_in` meets its contract. The loop's invariant: the bytes passed so far are in the buffer from `at` on, and all
+-- others are as they were.
+use mathlib.Core.Path.{_≡_, refl}
+use Prim.Native.Nat.{_≤_, _-_}
+use native.Mathlib.Numerals.{add-one}
+use native.Mathlib.Omega.{arith}
+use lib.ListN.{length, length-set}
+use lib.Seq.{paste, paste-zero, paste-suc, take-length}
+use denote.Ref.{now}
+use Rattle.planfile.specs.File.{placed}
+use Rattle.planfile.proofs.copy_in.Statement.{statement}
+use Rattle.planfile.proofs.copy_in.Tie as tie
+
+abbrev Inv-loop : tie.InvT-loop
+Inv-loop source out₀ at i₀ out i = (i ≤ length source) × (length out ≡ length out₀) × (out ≡ paste out₀ at source i)
+
+abbrev μ-loop : tie.MeasureT-loop
+μ-loop source out₀ at i₀ out i = length source - i
+
+loop-holds : tie.Need-loop-holds Inv-loop μ-loop
+loop-holds c = (omega arith, refl, paste-zero (now (c .args .out)) (c .args .at) (now (c .args .source)))
+
+shared-slice-read-out : tie.Need-shared-slice-read-out Inv-loop μ-loop
+shared-slice-read-out c = omega arith
+
+add-out : tie.Need-add-out Inv-loop μ-loop
+add-out c = omega arith
+
+slice-write-out : tie.Need-slice-write-out Inv-loop μ-loop
+slice-write-out c = omega arith
+
+add-i : tie.Need-add-i Inv-loop μ-loop
+add-i c = omega arith
+
+loop-less : tie.Need-loop-less Inv-loop μ-loop
+loop-less c = omega arith
+
+loop-again : tie.Need-loop-again Inv-loop μ-loop
+loop-again c =
+    let loop = c .before .before .loop in
+    let args = c .before .before .before .args in (
+      omega arith,
+      simp length-set (loop .inv .1),
+      rw (loop .inv .2, add-one) (paste-suc (now (args .out)) (args .at) (now (args .source)) (loop .i) 0 (omega arith) (omega arith)),
+    )
+
+same-length : tie.Need-same-length Inv-loop μ-loop
+same-length c = c .before .loop .inv .1
+
+returns : tie.Need-returns Inv-loop μ-loop
+unfolding placed
+returns c =
+    let source = now (c .before .before .args .source) in
+    let e : c .before .loop .i ≡ length source = omega arith in
+    rw (e, take-length source) at (c .before .loop .inv .2)
+
+pub copy-in-spec : {M : Type 1} → statement M
+copy-in-spec =
+    tie.close
+    (tie.spec
+    Inv-loop
+    μ-loop
+    loop-holds
+    shared-slice-read-out
+    add-out
+    slice-write-out
+    add-i
+    loop-less
+    loop-again
+    same-length
+    returns)

@@ -1,0 +1,65 @@
+-- What it means that the checks of sizes, lengths and rows pass: the table is in order and, if planned, its settings are lawful.
+--   Measured kind net calls settings == what sizes and lengths are that 1, 2 and 3 do not refuse
+use mathlib.Core.Path.{_≡_, refl, _∙_}
+use mathlib.Core.Logic.{_↔_, Iff·trans}
+use mathlib.Core.Bool.{Bool, true, false, cond}
+use mathlib.Core.List.{List}
+use Prim.Native.Nat.{ℕ, _*_, _≤_}
+use lib.Dec.{T, eqb}
+use lib.ListN.{length}
+use borrow.Author.Tests.{eqb-true, eqb-false}
+use Rattle.shelf.specs.declared.Network.{Network}
+use Rattle.shelf.specs.Network.{withinLimits, mostCalls}
+use Rattle.shelf.specs.Rows.{rowCount}
+use Rattle.shelf.specs.Light.{Lawful}
+use Rattle.calls.specs.Verdict.{_⨾_}
+use Rattle.calls.specs.VerdictLaws.{then-passes}
+use Rattle.calls.specs.Table.{sizeChecks, callChecks, InOrder}
+use Rattle.calls.specs.TableLaws.{size-checks-pass, call-checks-pass}
+use Rattle.acceptance.specs.Acceptance.{unlawfulRow}
+use Rattle.acceptance.specs.Exactly.{rows-lawful}
+use Rattle.planfile.specs.File.{planned, settingsPerCall, settingsDistance}
+use Rattle.planfile.specs.FileLaws.{planned-distance}
+use Rattle.planfile.specs.Checks.{tableChecks}
+
+pub record Measured (kind : ℕ) (net : Network) (calls settings : List ℕ) : Type 0 where
+  pub limits : T (withinLimits net)
+  pub whole : length calls ≡ 4 * rowCount calls
+  pub settings-length : length settings ≡ settingsDistance kind (rowCount calls)
+  pub few : rowCount calls ≤ mostCalls
+
+-- the checks of the rows pass where those of the calls do and, for a planned file, those of the settings
+table-passes : (net : Network) (kind : ℕ) (calls settings : List ℕ)
+    → (tableChecks net kind calls settings .number ≡ 0) ↔ ((callChecks net calls .number ≡ 0) × (kind ≡ planned → unlawfulRow net calls settings .number ≡ 0))
+unfolding tableChecks
+table-passes net kind calls settings = go (eqb kind planned) refl
+  where
+    go : (b : Bool) → eqb kind planned ≡ b → (cond b (callChecks net calls ⨾ unlawfulRow net calls settings) (callChecks net calls) .number ≡ 0)
+        ↔ ((callChecks net calls .number ≡ 0) × (kind ≡ planned → unlawfulRow net calls settings .number ≡ 0))
+    go true e = (
+      λ h. let p = then-passes (callChecks net calls) (unlawfulRow net calls settings) .0 h in (p .0, λ k. p .1),
+      λ h. then-passes (callChecks net calls) (unlawfulRow net calls settings) .1 (h .0, h .1 (eqb-true kind planned e)),
+    )
+    go false e = (λ h. (h, λ k. absurd (eqb-false kind planned e k)), λ h. h .0)
+
+module _ (kind : ℕ) (net : Network) (calls settings : List ℕ) where
+  pub measured : (sizeChecks net (length calls) (length settings) (settingsPerCall kind) .number ≡ 0) ↔ Measured kind net calls settings
+  unfolding settingsDistance
+  measured = (
+    λ h.
+        let p = size-checks-pass net calls (length settings) (settingsPerCall kind) .0 h in
+        record { limits = p .0; whole = p .1; settings-length = p .2; few = p .3 },
+    λ h. size-checks-pass net calls (length settings) (settingsPerCall kind) .1 (h .limits, h .whole, h .settings-length, h .few),
+  )
+
+  pub table-lawful : Measured kind net calls settings
+      → (tableChecks net kind calls settings .number ≡ 0) ↔ (InOrder net calls × (kind ≡ planned → Lawful net calls settings))
+  table-lawful h = Iff·trans (table-passes net kind calls settings) (
+    λ p. let o = order (p .0) in (o, λ k. rows-lawful net calls settings o .0 (p .1 k, h .settings-length ∙ planned-distance kind (rowCount calls) k)),
+    λ p. (call-checks-pass net calls .1 (p .0 .inside, p .0 .inlets, p .0 .outlets), λ k. rows-lawful net calls settings (p .0) .1 (p .1 k) .0),
+  )
+    where
+      order : callChecks net calls .number ≡ 0 → InOrder net calls
+      order z =
+          let rows = call-checks-pass net calls .0 z in
+          record { limits = h .limits; whole = h .whole; few = h .few; inside = rows .0; inlets = rows .1; outlets = rows .2 }

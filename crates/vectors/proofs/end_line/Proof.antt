@@ -1,0 +1,55 @@
+-- `vectors::end_line` is safe and ends: its loop counts to the length.
+use Prim.Native.Nat.{_≤_, _-_}
+use lib.ListN.{length}
+use borrow.Author.Needs.{needs}
+use Rattle.vectors.proofs.end_line.Statement.{statement}
+use Rattle.vectors.proofs.end_line.Tie as tie
+
+abbrev Inv-loop : tie.InvT-loop
+Inv-loop room i₀ t3 i = i ≤ length room
+
+abbrev μ-loop : tie.MeasureT-loop
+μ-loop room i₀ t3 i = length room - i
+
+loop-holds : tie.Need-loop-holds Inv-loop μ-loop
+loop-holds c = search needs
+
+shared-slice-read-show-byte : tie.Need-shared-slice-read-show-byte Inv-loop μ-loop
+shared-slice-read-show-byte c = search needs
+
+show-byte-requires : tie.Need-show-byte-requires Inv-loop μ-loop
+show-byte-requires c κs = search needs
+
+add-i : tie.Need-add-i Inv-loop μ-loop
+add-i c = search needs
+
+loop-less : tie.Need-loop-less Inv-loop μ-loop
+loop-less c = search needs
+
+loop-again : tie.Need-loop-again Inv-loop μ-loop
+loop-again c = search needs
+
+slice-aggregate-write-all : tie.Need-slice-aggregate-write-all Inv-loop μ-loop
+slice-aggregate-write-all c = search needs
+
+write-all-requires : tie.Need-write-all-requires Inv-loop μ-loop
+write-all-requires c κs = search needs
+
+returns : tie.Need-returns Inv-loop μ-loop
+returns c = search needs
+
+pub end-line-spec : {M : Type 1} → statement M
+end-line-spec =
+    tie.close
+    (tie.spec
+    Inv-loop
+    μ-loop
+    loop-holds
+    shared-slice-read-show-byte
+    show-byte-requires
+    add-i
+    loop-less
+    loop-again
+    slice-aggregate-write-all
+    write-all-requires
+    returns)
