@@ -1,0 +1,22 @@
+-- `lines::write_byte` meets its contract: one store.
+use borrow.Author.Needs.{needs}
+use Rattle.lines.specs.Writing.{adds-byte}
+use Rattle.lines.proofs.write_byte.Statement.{statement}
+use Rattle.lines.proofs.write_byte.Tie as tie
+use Rattle.lines.proofs.write_byte.Reads as reads
+use Rattle.lines.proofs.write_byte.Lts as lts
+
+slice-write-out : tie.Need-slice-write-out
+slice-write-out c = search needs
+
+add-result : tie.Need-add-result
+add-result c = search needs
+
+same-length : tie.Need-same-length
+same-length c = search needs
+
+returns : tie.Need-returns
+returns c = adds-byte _ _ _ (search needs)
+
+pub write-byte-spec : {M : Type 1} → statement M
+write-byte-spec = tie.close (tie.spec slice-write-out add-result same-length returns)

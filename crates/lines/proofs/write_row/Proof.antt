@@ -1,0 +1,55 @@
+-- `lines::write_row` meets its contract: the numbers are those of the call row and the settings row.
+use native.Mathlib.Omega.{arith}
+use lib.ListN.{length-append}
+use Rattle.shelf.specs.Network.{mostCalls}
+use Rattle.lines.specs.TextLaws.{row-line-told, row-line-room}
+use Rattle.lines.specs.Writing.{mostRowLine, adds-same}
+use borrow.Author.Needs.{needs}
+use Rattle.lines.proofs.write_row.Statement.{statement}
+use Rattle.lines.proofs.write_row.Tie as tie
+
+abbrev to-start : tie.After-at2 → tie.Start
+to-start c = c .before .before .before .before .before
+
+at-requires : tie.Need-at-requires
+at-requires c κs = search needs
+
+at-requires-2 : tie.Need-at-requires-2
+at-requires-2 c κs = search needs
+
+slice-aggregate-write-line : tie.Need-slice-aggregate-write-line
+slice-aggregate-write-line c = search needs
+
+write-line-requires : tie.Need-write-line-requires
+unfolding mostRowLine mostCalls
+write-line-requires c κs =
+    let lit = c .before .before in
+    let start = to-start lit in
+    omega (arith, start .pre .0, row-line-room _ _ _ (start .pre .1 .below) _ _ (lit .before .at .ensures) (lit .at2 .ensures))
+
+same-length : tie.Need-same-length
+same-length c = search needs
+
+returns : tie.Need-returns
+unfolding mostRowLine mostCalls
+returns c =
+    let written = c .before .before in
+    let lit = written .before .before .before in
+    let text = written .write-line .ensures in
+    let start = to-start lit in
+    let room = row-line-room _ _ _ (start .pre .1 .below) _ _ (lit .before .at .ensures) (lit .at2 .ensures) in
+    let next = simp length-append at (text .is-next) in (
+      adds-same text (row-line-told _ _ _ (start .pre .1 .below) _ _ (lit .before .at .ensures) (lit .at2 .ensures)),
+      omega arith,
+    )
+
+pub write-row-spec : {M : Type 1} → statement M
+write-row-spec =
+    tie.close
+    (tie.spec
+    at-requires
+    at-requires-2
+    slice-aggregate-write-line
+    write-line-requires
+    same-length
+    returns)

@@ -1,0 +1,5 @@
+pub mod Text
+pub mod Writing
+pub mod TextLaws
+pub mod Listing
+pub mod Examples

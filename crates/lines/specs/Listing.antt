@@ -1,0 +1,113 @@
+-- From what the reader tells and what the planner answers to the text of the listing: for the code of the entry.
+--   Held file told == the places that a whole read tells follow one another within the file
+use mathlib.Core.Path.{_≡_, sym, ap, _∙_}
+use mathlib.Core.List.{List}
+use Prim.Native.Nat.{ℕ, _+_, _*_, _≤_}
+use native.Mathlib.Omega.{arith}
+use lib.ListN.{length, take, drop}
+use lib.Seq.{take-at}
+use borrow.Author.Tests.{eq-eqb, ne-eqb}
+use Rattle.shelf.specs.declared.Network.{Network}
+use Rattle.shelf.specs.Network.{cycle, mostCalls}
+use Rattle.shelf.specs.Rows.{rowCount}
+use Rattle.choice.specs.Rule.{at}
+use Rattle.planner.specs.declared.Planned.{Planned}
+use Rattle.planner.specs.Planner.{settingsRows, plannerVerdict, chosen, planAnswer, planBuffer, Plans}
+use Rattle.planner.specs.SettingsLaws.{settings-length}
+use Rattle.planfile.specs.declared.Told.{Told}
+use Rattle.planfile.specs.File.{planned}
+use Rattle.planfile.specs.FileLaws.{planned-distance, settings-most, length-part, rows-part}
+use Rattle.planfile.specs.Reader.{trailerAt, layoutOf, wholeTold, readAnswer, callsIn, settingsIn, netOf}
+use Rattle.planfile.specs.ReaderLaws.{laid-out, reader-passes, whole-answer, answer-passes}
+use Rattle.lines.specs.Text.{decimal, refusedText, tableText, plannedText, callsText, toldText, listing}
+use Rattle.lines.specs.Writing.{Adds, Lists, HasRows, adds-same, adds-front}
+
+pub record Held (file : List ℕ) (told : Told) : Type 0 where
+  pub calls-end : told .«calls_at» + 4 * told .count ≡ told .«settings_at»
+  pub settings-end : told .kind ≡ planned → told .«settings_at» + 3 * told .count ≡ trailerAt file
+  pub settings-inside : told .«settings_at» ≤ trailerAt file
+  pub inside : trailerAt file ≤ length file
+  pub few : told .count ≤ mostCalls
+
+module _ (file : List ℕ) (told : Told) (e : told ≡ readAnswer file) where
+  -- a refused read
+  pub refused-listing : (told .number ≡ 0 → ⊥) → refusedText (told .number) (told .row) ≡ listing file
+  unfolding listing toldText
+  refused-listing n = rw (← e, ne-eqb (told .number) 0 n)
+
+  module _ (z : told .number ≡ 0) where
+    pub held : Held file told
+    unfolding wholeTold layoutOf
+    held =
+        let p = answer-passes file (sym (ap (λ (t : Told). t .number) e) ∙ z) in
+        let stated = reader-passes file .0 p .0 in
+        let laid = laid-out file stated in
+        let most = settings-most (layoutOf file .kind) (layoutOf file .count) in
+        rw (e, whole-answer file p) (record {
+          calls-end = laid .calls-end;
+          settings-end = λ k. ap (λ (d : ℕ). layoutOf file .«settings_at» + d) (sym (planned-distance (layoutOf file .kind) (layoutOf file .count) k)) ∙ laid .settings-end;
+          settings-inside = omega (arith, laid .settings-end);
+          inside = laid .inside;
+          few = stated .few;
+        })
+
+    calls-count : rowCount (callsIn file told) ≡ told .count
+    unfolding callsIn
+    calls-count = rows-part file _ _ _ (omega (arith, held .settings-inside, held .inside)) (held .calls-end)
+
+    pub calls-few : rowCount (callsIn file told) ≤ mostCalls
+    calls-few = omega (arith, calls-count, held .few)
+
+    -- a planned file, with its own settings
+    module _ (k : told .kind ≡ planned) where
+      pub planned-rows : HasRows (callsIn file told) (settingsIn file told)
+      unfolding settingsIn
+      planned-rows = record {
+        few = calls-few;
+        settings-length = omega (arith, calls-count, held .settings-end k, length-part file (told .«settings_at») (trailerAt file) (held .inside));
+      }
+
+      pub planned-listing : plannedText (netOf told) (callsIn file told) (settingsIn file told) ≡ listing file
+      unfolding listing toldText
+      planned-listing = rw (← e, eq-eqb (told .number) 0 z, eq-eqb (told .kind) planned k)
+
+    -- a file of calls only
+    pub calls-listing : (told .kind ≡ planned → ⊥) → callsText (netOf told) (callsIn file told) ≡ listing file
+    unfolding listing toldText
+    calls-listing n = rw (← e, eq-eqb (told .number) 0 z, ne-eqb (told .kind) planned n)
+
+-- a text at the front of the buffer is the listing
+pub lists : {file before after : List ℕ} {size : ℕ} {text : List ℕ} → Adds before after 0 size text → text ≡ listing file → Lists file before after size
+lists a e = let b = adds-same a e in record { buffer = adds-front b; is-size = omega (arith, b .is-next); inside = omega (arith, b .is-next, b .fits) }
+
+module _ (net : Network) (calls before after : List ℕ) (a : Planned) (p : Plans net calls before after a) (l : length before ≡ 3 * mostCalls) where
+  told-answer : a ≡ planAnswer net calls (3 * mostCalls)
+  told-answer = p .answer ∙ ap (planAnswer net calls) l
+
+  -- the planner refuses
+  pub refused-calls : (a .number ≡ 0 → ⊥) → refusedText (a .number) (a .row) ≡ callsText net calls
+  unfolding callsText
+  refused-calls n = rw (← told-answer, ne-eqb (a .number) 0 n)
+
+  module _ (z : a .number ≡ 0) where
+    -- the settings stand at the front of the planner's buffer
+    pub placed-settings : take (3 * rowCount calls) after ≡ settingsRows (cycle net) calls (at (chosen net calls .centrals)) (rowCount calls)
+    unfolding planBuffer planAnswer
+    placed-settings =
+        let v : plannerVerdict net calls (length before) .number ≡ 0 = sym (ap (λ (b : Planned). b .number) (p .answer)) ∙ z in
+        ap (take (3 * rowCount calls)) (p .buffer ∙ rw (eq-eqb (plannerVerdict net calls (length before) .number) 0 v))
+        ∙ take-at _ (drop (3 * rowCount calls) before) (3 * rowCount calls) (settings-length (cycle net) calls (at (chosen net calls .centrals)) (rowCount calls))
+
+    pub placed-rows : rowCount calls ≤ mostCalls → HasRows calls (take (3 * rowCount calls) after)
+    placed-rows few = record {
+      few = few;
+      settings-length = rw placed-settings (omega (arith, settings-length (cycle net) calls (at (chosen net calls .centrals)) (rowCount calls)));
+    }
+
+    pub placed-calls : tableText net calls (take (3 * rowCount calls) after) (decimal (a .moved)) ≡ callsText net calls
+    unfolding callsText
+    placed-calls = rw (placed-settings, ← told-answer, eq-eqb (a .number) 0 z)
+
+-- two answers that satisfy the entry's guarantee are the same
+pub one-answer : (file before after after′ : List ℕ) (size size′ : ℕ) → Lists file before after size → Lists file before after′ size′ → (after ≡ after′) × (size ≡ size′)
+one-answer file before after after′ size size′ g h = (g .buffer ∙ sym (h .buffer), g .is-size ∙ sym (h .is-size))

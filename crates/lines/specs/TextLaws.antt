@@ -1,0 +1,134 @@
+-- Laws of the text: a number's digits one by one and how many there are, and a line as the numbers before its last word.
+--   tens k == 1 with k zeros behind it
+use mathlib.Core.Path.{_≡_, refl, sym, ap, _∙_}
+use mathlib.Core.Bool.{Bool, true, false}
+use mathlib.Core.List.{List, [], _∷_, _++_, append-assoc}
+use Prim.Native.Nat.{ℕ, zero, suc, _+_, _*_, _/_, _%_, _≤_, _<_}
+use native.Mathlib.Omega.{arith}
+use lib.Dec.{ltb}
+use lib.ListN.{length, take, getD, length-append}
+use borrow.Author.Tests.{lt-ltb, le-ltb, ltb-true, ltb-false}
+use Rattle.shelf.specs.declared.Network.{Network}
+use Rattle.shelf.specs.declared.CallRow.{CallRow}
+use Rattle.shelf.specs.declared.SettingsRow.{SettingsRow}
+use Rattle.shelf.specs.Rows.{rowCount, α, ω, β, ω', x, γ, y, CallRead, SettingsRead}
+use Rattle.lines.specs.Text.{space, newline, digits, decimal, line, refusedWord, rowWord, refusedText, firstLine, rowLine, rowLines, tableText, plannedText, dash}
+use Rattle.lines.specs.Writing.{spaced}
+
+-- more steps than the number has change nothing
+same-digits : (s t n : ℕ) → n < s → n < t → digits s n ≡ digits t n
+unfolding digits
+same-digits zero t n h k = absurd (omega arith)
+same-digits (suc s) zero n h k = absurd (omega arith)
+same-digits (suc s) (suc t) n h k = go (λ l. same-digits s t (n / 10) (omega arith) (omega arith)) (ltb n 10) refl
+  where
+    go : (10 ≤ n → digits s (n / 10) ≡ digits t (n / 10)) → (b : Bool) → ltb n 10 ≡ b → digits (suc s) n ≡ digits (suc t) n
+    go rest true e = rw e
+    go rest false e = let r = rest (ltb-false n 10 e) in rw (e, r)
+
+-- one digit, and the last of several
+pub decimal-one : (n : ℕ) → n < 10 → decimal n ≡ (48 + n) ∷ []
+unfolding decimal digits
+decimal-one n h = rw (lt-ltb n 10 h)
+
+pub decimal-more : (n : ℕ) → 10 ≤ n → decimal n ≡ decimal (n / 10) ++ (48 + n % 10) ∷ []
+unfolding decimal digits
+decimal-more n h = rw (le-ltb n 10 h) (ap (λ (d : List ℕ). d ++ (48 + n % 10) ∷ []) (same-digits n (suc (n / 10)) (n / 10) (omega arith) (omega arith)))
+
+unfoldable pub tens : ℕ → ℕ
+tens zero = 1
+tens (suc k) = 10 * tens k
+
+-- how many digits there are
+pub decimal-length : (k n : ℕ) → n < tens (suc k) → length (decimal n) ≤ suc k
+unfolding tens
+decimal-length zero n h = rw (decimal-one n (omega arith)) (omega arith)
+decimal-length (suc k) n h = go (decimal-length k (n / 10) (omega arith)) (ltb n 10) refl
+  where
+    go : length (decimal (n / 10)) ≤ suc k → (b : Bool) → ltb n 10 ≡ b → length (decimal n) ≤ suc (suc k)
+    go rest true e = rw (decimal-one n (ltb-true n 10 e)) (omega arith)
+    go rest false e = rw (decimal-more n (ltb-false n 10 e)) (simp length-append (omega arith))
+
+-- a byte has at most 3 digits, a row at most 4, and what a usize holds at most 20
+pub byte-length : (n : ℕ) → n < 256 → length (decimal n) ≤ 3
+unfolding tens
+byte-length n h = decimal-length 2 n (omega arith)
+
+pub row-length : (n : ℕ) → n < 1024 → length (decimal n) ≤ 4
+unfolding tens
+row-length n h = decimal-length 3 n (omega arith)
+
+pub number-length : (n : ℕ) → n < 18446744073709551616 → length (decimal n) ≤ 20
+unfolding tens
+number-length n h = decimal-length 19 n (omega arith)
+
+-- numbers one behind the other
+pub spaced-more : (numbers : List ℕ) (i : ℕ) → i < length numbers
+    → spaced (take (suc i) numbers) ≡ spaced (take i numbers) ++ decimal (getD numbers i 0) ++ space ∷ []
+unfolding spaced
+spaced-more [] i h = absurd (omega arith)
+spaced-more (number ∷ numbers) zero h = refl
+spaced-more (number ∷ numbers) (suc i) h =
+    ap (λ (r : List ℕ). decimal number ++ space ∷ r) (spaced-more numbers i (omega arith)) ∙ simp append-assoc
+
+pub spaced-room : (numbers : List ℕ) (i : ℕ) → i < length numbers
+    → length (spaced (take i numbers)) + length (decimal (getD numbers i 0)) + 1 ≤ length (spaced numbers)
+unfolding spaced
+spaced-room [] i h = absurd (omega arith)
+spaced-room (number ∷ numbers) zero h = simp length-append (omega arith)
+spaced-room (number ∷ numbers) (suc i) h = simp length-append (omega (arith, spaced-room numbers i (omega arith)))
+
+-- the words of a first line, of a row's line and of a refusal, as they are written
+pub first-line-is : (net : Network) (K : ℕ) (moved : List ℕ)
+    → firstLine net K moved ≡ spaced (net .n ∷ net .m ∷ net .r ∷ K ∷ []) ++ moved ++ newline ∷ []
+unfolding firstLine line spaced
+first-line-is net K moved = simp append-assoc
+
+pub table-text-is : (net : Network) (calls settings moved : List ℕ)
+    → tableText net calls settings moved ≡ spaced (net .n ∷ net .m ∷ net .r ∷ rowCount calls ∷ []) ++ moved ++ newline ∷ [] ++ rowLines calls settings (rowCount calls)
+unfolding tableText
+table-text-is net calls settings moved = rw (first-line-is net (rowCount calls) moved)
+
+pub planned-text-is : (net : Network) (calls settings : List ℕ)
+    → plannedText net calls settings ≡ spaced (net .n ∷ net .m ∷ net .r ∷ rowCount calls ∷ []) ++ (45 ∷ 10 ∷ []) ++ rowLines calls settings (rowCount calls)
+unfolding plannedText dash newline
+planned-text-is net calls settings = table-text-is net calls settings (dash ∷ []) ∙ simp append-assoc
+
+pub row-line-is : (calls settings : List ℕ) (i : ℕ)
+    → rowLine calls settings i ≡ spaced (i ∷ α calls i ∷ ω calls i ∷ x settings i ∷ γ settings i ∷ y settings i ∷ β calls i ∷ []) ++ decimal (ω' calls i) ++ newline ∷ []
+unfolding rowLine line spaced
+row-line-is calls settings i = simp append-assoc
+
+pub refused-is : (number row : ℕ)
+    → refusedText number row ≡ (114 ∷ 101 ∷ 102 ∷ 117 ∷ 115 ∷ 101 ∷ 100 ∷ 32 ∷ []) ++ decimal number ++ (32 ∷ 114 ∷ 111 ∷ 119 ∷ 32 ∷ []) ++ decimal row ++ newline ∷ []
+unfolding refusedText refusedWord rowWord line space
+refused-is number row = simp append-assoc
+
+-- the room that they take
+pub sizes-length : (n m r K : ℕ) → length (decimal n) ≤ 20 → length (decimal m) ≤ 20 → length (decimal r) ≤ 20 → length (decimal K) ≤ 20
+    → length (spaced (n ∷ m ∷ r ∷ K ∷ [])) ≤ 84
+unfolding spaced
+sizes-length n m r K a b c d = simp length-append (omega arith)
+
+module _ (calls settings : List ℕ) (i : ℕ) (below : i < 1024) (call : CallRow) (light : SettingsRow) (read : CallRead calls i call) (lit : SettingsRead settings i light) where
+  -- the numbers of a row's line, as the code's row records hold them
+  abbrev pub numbers : List ℕ
+  numbers =
+      i ∷ call .«input_module» ∷ call .«input_channel» ∷ light .«to_central» ∷ light .central ∷ light .«from_central» ∷ call .«output_module» ∷ []
+
+  pub row-line-told : spaced numbers ++ decimal (call .«output_channel») ++ newline ∷ [] ≡ rowLine calls settings i
+  row-line-told = rw (read .input-module, read .input-channel, read .output-module, read .output-channel, lit .to-central, lit .central, lit .from-central) (sym (row-line-is calls settings i))
+
+  pub row-line-room : length (spaced numbers) + length (decimal (call .«output_channel»)) < 40
+  unfolding spaced
+  row-line-room = simp length-append (omega (
+    arith,
+    row-length i below,
+    byte-length (call .«input_module») (read .small-input-module),
+    byte-length (call .«input_channel») (read .small-input-channel),
+    byte-length (call .«output_module») (read .small-output-module),
+    byte-length (call .«output_channel») (read .small-output-channel),
+    byte-length (light .«to_central») (lit .small-to-central),
+    byte-length (light .central) (lit .small-central),
+    byte-length (light .«from_central») (lit .small-from-central),
+  ))
