@@ -1,5 +1,5 @@
--- The answer runs: cases 9, 10 and 11 of the bench table, and each refusal, its row and its place in the order, by one
--- statement over a list.
+-- The answer runs: refusals, their rows and their places in the order, by one statement over a list. The bench table is run by
+-- the crate `bench`.
 use mathlib.Core.Path.{_≡_, refl}
 use mathlib.Core.List.{List, [], _∷_, map}
 use Prim.Native.Nat.{ℕ}
@@ -33,15 +33,8 @@ example n m r calls settings number row = record { net = record { n = n; m = m; 
 
 examples : List Example
 examples =
-    -- case 9 of the bench table, its four sub-cases; case 10; case 11
-    example 2 2 2 (0 ∷ 0 ∷ 1 ∷ 0 ∷ []) (1 ∷ 1 ∷ 0 ∷ []) 0 1
-    ∷ example 2 2 2 (0 ∷ 0 ∷ 1 ∷ 0 ∷ []) (2 ∷ 1 ∷ 0 ∷ []) 9 0
-    ∷ example 2 2 2 (0 ∷ 0 ∷ 1 ∷ 0 ∷ []) (1 ∷ 0 ∷ 0 ∷ []) 10 0
-    ∷ example 2 2 2 (0 ∷ 0 ∷ 1 ∷ 0 ∷ []) (1 ∷ 1 ∷ 1 ∷ []) 11 0
-    ∷ example 2 2 2 (0 ∷ 0 ∷ 0 ∷ 0 ∷ 0 ∷ 1 ∷ 1 ∷ 0 ∷ []) (0 ∷ 0 ∷ 0 ∷ 0 ∷ 0 ∷ 1 ∷ []) 12 1
-    ∷ example 2 2 2 (0 ∷ 0 ∷ 0 ∷ 0 ∷ 1 ∷ 0 ∷ 0 ∷ 1 ∷ []) (0 ∷ 0 ∷ 0 ∷ 1 ∷ 0 ∷ 0 ∷ []) 13 1
     -- sizes of 0, at a limit, above it, and beyond a byte
-    ∷ example 0 1 1 [] [] 1 0
+    example 0 1 1 [] [] 1 0
     ∷ example 16 32 64 [] [] 0 0
     ∷ example 17 32 64 [] [] 1 0
     ∷ example 16 33 64 [] [] 1 0

@@ -33,12 +33,8 @@ fn write_word(out: &mut [u8], at: usize, word: &[u8]) -> usize
     requires { ⌜ at + length (now word) ≤ length (now out) ⌝ }
     ensures { λ next. ⌜ Adds (now (out .entry)) (now (out .exit)) at next (now (word .entry)) ⌝ }
 {
-    let mut i = 0;
-    while i < word.len() {
-        out[at + i] = word[i];
-        i += 1;
-    }
-    at + i
+    planfile::copy_in(word, out, at);
+    at + word.len()
 }
 
 // Writes a number in decimal: the digits before its last one, and the last one.

@@ -405,8 +405,8 @@ fn low_byte(value: usize) -> u8
     (value % 256) as u8
 }
 
-// Copies all of `source` into `out`, from `at` on.
-fn copy_in(source: &[u8], out: &mut [u8], at: usize)
+// Copies all of `source` into `out`, from `at` on. Texts of listings are copied by it too.
+pub fn copy_in(source: &[u8], out: &mut [u8], at: usize)
     requires { ⌜ at + length (now source) ≤ length (now out) ⌝ }
     ensures { λ _. ⌜ now (out .exit) ≡ placed (now (out .entry)) at (now (source .entry)) ⌝ }
 {

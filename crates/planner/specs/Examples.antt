@@ -1,4 +1,5 @@
--- The answers run: cases 1 to 8 and 12 of the bench table, moved counts and every byte of the buffer, by one statement over a list.
+-- The answers run: the order of refusals, and every byte of the buffer, by one statement over a list. The bench table is run by
+-- the crate `bench`.
 use mathlib.Core.Path.{_≡_, refl}
 use mathlib.Core.List.{List, [], _∷_, map}
 use Prim.Native.Nat.{ℕ}
@@ -42,33 +43,17 @@ example n m r calls before number row moved after =
 room : ℕ → List ℕ
 room k = replicate k 99
 
-case-3-calls : List ℕ
-case-3-calls = 0 ∷ 0 ∷ 0 ∷ 0 ∷ 1 ∷ 0 ∷ 1 ∷ 0 ∷ 1 ∷ 1 ∷ 0 ∷ 1 ∷ 0 ∷ 1 ∷ 1 ∷ 1 ∷ []
-
 examples : List Example
 examples =
-    -- cases 1 to 4; a byte beyond the settings keeps its value
-    example 1 1 1 [] (room 1) 0 0 0 (99 ∷ [])
-    ∷ example 1 1 1 (0 ∷ 0 ∷ 0 ∷ 0 ∷ []) (room 4) 0 1 0 (0 ∷ 0 ∷ 0 ∷ 99 ∷ [])
-    ∷ example 2 2 2 case-3-calls (room 12) 0 4 0 (0 ∷ 0 ∷ 0 ∷ 1 ∷ 0 ∷ 1 ∷ 0 ∷ 1 ∷ 1 ∷ 1 ∷ 1 ∷ 0 ∷ [])
-    ∷ example 2 2 3 (0 ∷ 0 ∷ 0 ∷ 0 ∷ 0 ∷ 1 ∷ 1 ∷ 0 ∷ 1 ∷ 0 ∷ 2 ∷ 0 ∷ 1 ∷ 1 ∷ 1 ∷ 1 ∷ []) (room 13) 0 4 2 (1 ∷ 1 ∷ 1 ∷ 0 ∷ 0 ∷ 1 ∷ 1 ∷ 0 ∷ 2 ∷ 2 ∷ 1 ∷ 2 ∷ 99 ∷ [])
-    -- case 5: one central too few, and enough
-    ∷ example 2 1 1 (0 ∷ 0 ∷ 0 ∷ 0 ∷ 0 ∷ 1 ∷ 0 ∷ 1 ∷ []) (room 6) 8 1 0 (room 6)
-    ∷ example 2 2 1 (0 ∷ 0 ∷ 0 ∷ 0 ∷ 0 ∷ 1 ∷ 0 ∷ 1 ∷ []) (room 6) 0 2 0 (0 ∷ 0 ∷ 0 ∷ 1 ∷ 1 ∷ 1 ∷ [])
-    -- cases 6, 7 and 8
-    ∷ example 2 2 1 (0 ∷ 0 ∷ 0 ∷ 0 ∷ 0 ∷ 0 ∷ 0 ∷ 1 ∷ []) (room 6) 6 1 0 (room 6)
-    ∷ example 2 2 1 (0 ∷ 0 ∷ 0 ∷ 0 ∷ 0 ∷ 1 ∷ 0 ∷ 0 ∷ []) (room 6) 7 1 0 (room 6)
-    ∷ example 1 1 1 (1 ∷ 0 ∷ 0 ∷ 0 ∷ []) (room 3) 5 0 0 (room 3)
-    -- case 12
-    ∷ example 1 32 1 [] [] 0 0 0 []
-    ∷ example 1 33 1 [] [] 1 0 0 []
-    ∷ example 2 2 2 case-3-calls (room 11) 4 0 0 (room 11)
-    -- the order: 1 before 2, 2 before 4, 4 before 5
-    ∷ example 0 1 1 (0 ∷ []) [] 1 0 0 []
+    -- the order: 1 before 2, 2 before 4, 4 before 5, 7 before 8
+    example 0 1 1 (0 ∷ []) [] 1 0 0 []
     ∷ example 1 1 1 (9 ∷ 9 ∷ 9 ∷ []) [] 2 0 0 []
     ∷ example 1 1 1 (9 ∷ 9 ∷ 9 ∷ 9 ∷ []) (room 2) 4 0 0 (room 2)
+    ∷ example 2 1 2 (0 ∷ 0 ∷ 0 ∷ 0 ∷ 0 ∷ 1 ∷ 0 ∷ 1 ∷ 1 ∷ 0 ∷ 0 ∷ 0 ∷ []) (room 9) 7 2 0 (room 9)
+    -- fewer centrals than channels; the byte beyond the settings keeps its value
+    ∷ example 2 1 2 (0 ∷ 1 ∷ 1 ∷ 0 ∷ 1 ∷ 1 ∷ 0 ∷ 0 ∷ []) (room 7) 0 2 0 (0 ∷ 0 ∷ 1 ∷ 1 ∷ 0 ∷ 0 ∷ 99 ∷ [])
     ∷ []
 
 examples-hold : map planned examples ≡ map told examples
-unfolding planned told examples example room case-3-calls wavelengthBetween remainder mostChannels mostCentrals mostModules mostCalls within withinLimits cycle rowCount α ω β ω' someBelow success passed refusedIf _⨾_ seekRows badSizes badLengths tooManyCalls outside usedEarlier outsideRow inletTwice outletTwice sizeChecks callChecks firstBelow firstOf isNone chain exchange exchanged byChain step planFrom plan rowsBelow upFrom order settingsRows overfull overfullRow roomRefused plannerVerdict chosen planAnswer planBuffer
+unfolding planned told examples example room wavelengthBetween remainder mostChannels mostCentrals mostModules mostCalls within withinLimits cycle rowCount α ω β ω' someBelow success passed refusedIf _⨾_ seekRows badSizes badLengths tooManyCalls outside usedEarlier outsideRow inletTwice outletTwice sizeChecks callChecks firstBelow firstOf isNone chain exchange exchanged byChain step planFrom plan rowsBelow upFrom order settingsRows overfull overfullRow roomRefused plannerVerdict chosen planAnswer planBuffer
 examples-hold = refl
