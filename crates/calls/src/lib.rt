@@ -12,7 +12,8 @@ ghost use Rattle.calls.specs.Point.{pointSlot, pointTwice, PointFits, ou
 use shelf::CallRow;
 use shelf::Network;
 
-// An answer: 0 and a row count for success, or the number of a refusal and its row.
+// An answer: 0 and a row count for success, or the number of a refusal and its row. Programs in C share this record.
+#[repr(C)]
 pub struct Verdict {
     pub number: usize,
     pub row: usize,

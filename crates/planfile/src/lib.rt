@@ -41,7 +41,8 @@ const FIRST_MARK: u8 = 0x41;
 const SECOND_MARK: u8 = 0x57;
 
 // What a reader tells: number and row, the network's sizes, the kind, K, and where note, calls and settings begin. A refused
-// read tells zero for all but number and row.
+// read tells zero for all but number and row. Programs in C share this record.
+#[repr(C)]
 pub struct Told {
     pub number: usize,
     pub row: usize,

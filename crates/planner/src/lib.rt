@@ -18,6 +18,8 @@ use shelf::CallRow;
 use shelf::Network;
 
 // The planner's answer: 0, K and the number of calls moved; or a refusal's number and row, with nothing moved.
+// Programs in C share this record.
+#[repr(C)]
 pub struct Planned {
     pub number: usize,
     pub row: usize,

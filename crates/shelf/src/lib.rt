@@ -7,7 +7,8 @@ ghost use Rattle.shelf.specs.Network.{Limits, within, withinLimits, Buil
 ghost use Rattle.shelf.specs.Rows.{CallRead, SettingsRead};
 
 // The sizes of a network: channels of each module, central modules, input modules (and as many output modules).
-// The numbers in a record may be any numbers: who is lent one asks `within_limits`.
+// The numbers in a record may be any numbers: who is lent one asks `within_limits`. Programs in C share this record.
+#[repr(C)]
 pub struct Network {
     pub n: usize,
     pub m: usize,

@@ -1,0 +1,61 @@
+//! Compares the proved library with the plain implementation: every small input, then COUNT drawn
+//! ones. Ends with a line that tells how many calls were compared, or stops at the first difference.
+
+use compare::comparison::{compare_all, compare_exhaustively, Coverage, Difference};
+use compare::inputs::{draw, Entry, Random};
+use compare::library::Library;
+use compare::plain::Plain;
+
+fn main() {
+    let arguments: Vec<String> = std::env::args().skip(1).collect();
+    let numbers: Vec<u64> = arguments
+        .iter()
+        .filter_map(|word| word.parse().ok())
+        .collect();
+    let (seed, count) = match numbers[..] {
+        [] if arguments.is_empty() => (1, 600_000),
+        [seed, count] if arguments.len() == 2 => (seed, count),
+        _ => {
+            eprintln!("usage: compare [SEED COUNT]");
+            std::process::exit(2);
+        }
+    };
+    match compare_many(seed, count) {
+        Ok(compared) => println!("{} calls compared, nothing differs", compared),
+        Err(difference) => {
+            println!("{}\n{:?}", difference.what, difference.input);
+            std::process::exit(1);
+        }
+    }
+}
+
+/// Compares, prints what was seen, and answers how many calls of the library were compared.
+fn compare_many(seed: u64, count: u64) -> Result<usize, Difference> {
+    let small = compare_exhaustively(&Plain, &Library)?;
+    println!("every small input: {} calls", small.total());
+    let mut drawn = Coverage::default();
+    let mut random = Random::seeded(seed);
+    for _ in 0..count {
+        drawn.add(compare_all(&Plain, &Library, &draw(&mut random))?);
+    }
+    println!("drawn with seed {}: {} calls", seed, drawn.total());
+    for entry in Entry::ALL {
+        println!("{:?}: {}", entry, numbers_seen(&small, &drawn, entry));
+    }
+    Ok(small.total() + drawn.total())
+}
+
+/// The numbers that an entry answered, each with how often.
+fn numbers_seen(small: &Coverage, drawn: &Coverage, entry: Entry) -> String {
+    let words: Vec<String> = (0..=16)
+        .map(|number| {
+            (
+                number,
+                small.count(entry, number) + drawn.count(entry, number),
+            )
+        })
+        .filter(|&(_, times)| times > 0)
+        .map(|(number, times)| format!("{} x{}", number, times))
+        .collect();
+    words.join(", ")
+}

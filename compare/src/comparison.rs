@@ -1,0 +1,547 @@
+//! Comparison of two implementations on one input, and on every small input.
+
+use crate::inputs::{calls_of_pairs, file_of, Entry, Input};
+use crate::pairs::filled;
+use crate::{
+    Entries, Network, Planned, Told, Verdict, CALL_BYTES, KIND_CALLS, KIND_PLANNED, SETTING_BYTES,
+    TRAILER_BYTES,
+};
+
+/// What an entry answered.
+#[derive(Clone, Copy, PartialEq, Eq, Debug)]
+pub enum Answer {
+    Planned(Planned),
+    Verdict(Verdict),
+    Told(Told),
+}
+
+impl Answer {
+    pub fn number(&self) -> usize {
+        match self {
+            Answer::Planned(planned) => planned.number,
+            Answer::Verdict(verdict) => verdict.number,
+            Answer::Told(told) => told.number,
+        }
+    }
+
+    pub fn row(&self) -> usize {
+        match self {
+            Answer::Planned(planned) => planned.row,
+            Answer::Verdict(verdict) => verdict.row,
+            Answer::Told(told) => told.row,
+        }
+    }
+
+    /// All numbers of the answer, in their order.
+    pub fn numbers(&self) -> Vec<usize> {
+        match self {
+            Answer::Planned(planned) => vec![planned.number, planned.row, planned.moved],
+            Answer::Verdict(verdict) => vec![verdict.number, verdict.row],
+            Answer::Told(told) => vec![
+                told.number,
+                told.row,
+                told.n,
+                told.m,
+                told.r,
+                told.kind,
+                told.count,
+                told.note_at,
+                told.calls_at,
+                told.settings_at,
+            ],
+        }
+    }
+}
+
+/// The entry that was compared and the number that both gave.
+#[derive(Clone, Copy, PartialEq, Eq, Debug)]
+pub struct Seen {
+    pub entry: Entry,
+    pub number: usize,
+}
+
+/// What differs, or which sentence of the document is broken, and the input.
+#[derive(Clone, Debug)]
+pub struct Difference {
+    pub what: String,
+    pub input: Input,
+}
+
+/// How often each entry gave each number.
+#[derive(Clone, Default, Debug)]
+pub struct Coverage {
+    counts: [[usize; 17]; 5],
+}
+
+impl Coverage {
+    pub fn add(&mut self, seen: Seen) {
+        self.counts[seen.entry as usize][seen.number] += 1;
+    }
+
+    pub fn count(&self, entry: Entry, number: usize) -> usize {
+        self.counts[entry as usize][number]
+    }
+
+    pub fn total(&self) -> usize {
+        self.counts.iter().flatten().sum()
+    }
+}
+
+// Lent buffers.
+
+/// The number of guard bytes on each side of a lent buffer: odd, so that buffers do not stand at
+/// even places.
+const GUARD: usize = 37;
+
+/// Bytes lent to an entry, inside a larger allocation with guard bytes on both sides, and a copy of
+/// all as they were.
+struct Lent {
+    whole: Vec<u8>,
+    before: Vec<u8>,
+}
+
+impl Lent {
+    fn new(bytes: &[u8]) -> Lent {
+        let mut whole = Vec::with_capacity(bytes.len() + 2 * GUARD);
+        whole.extend((0..GUARD).map(guard_byte));
+        whole.extend(bytes);
+        whole.extend((GUARD..2 * GUARD).map(guard_byte));
+        Lent {
+            before: whole.clone(),
+            whole,
+        }
+    }
+
+    fn end(&self) -> usize {
+        self.whole.len() - GUARD
+    }
+
+    fn bytes(&self) -> &[u8] {
+        &self.whole[GUARD..self.end()]
+    }
+
+    fn bytes_mut(&mut self) -> &mut [u8] {
+        let end = self.end();
+        &mut self.whole[GUARD..end]
+    }
+
+    fn is_unchanged(&self) -> bool {
+        self.whole == self.before
+    }
+
+    /// Whether the guard bytes, and the bytes from a place of the buffer on, are as they were.
+    fn is_unchanged_from(&self, place: usize) -> bool {
+        let kept = GUARD + place;
+        self.whole[..GUARD] == self.before[..GUARD] && self.whole[kept..] == self.before[kept..]
+    }
+}
+
+fn guard_byte(place: usize) -> u8 {
+    (place * 59 + 113) as u8
+}
+
+// One implementation on one input.
+
+/// What came of an input: the answer, the room as it was left, and the first broken sentence of the
+/// document.
+struct Outcome {
+    answer: Answer,
+    room: Vec<u8>,
+    broken: Option<&'static str>,
+}
+
+/// The answer of an implementation, and the bytes of its room afterwards. Acceptance and the reader
+/// have no room.
+pub fn answer_of(entries: &dyn Entries, input: &Input) -> (Answer, Vec<u8>) {
+    let outcome = run(entries, input);
+    (outcome.answer, outcome.room)
+}
+
+fn run(entries: &dyn Entries, input: &Input) -> Outcome {
+    match input {
+        Input::Plan {
+            net,
+            calls,
+            settings,
+        } => {
+            let lent = [Lent::new(calls)];
+            let mut room = Lent::new(settings);
+            let answer = entries.plan(*net, lent[0].bytes(), room.bytes_mut());
+            let written = SETTING_BYTES * (calls.len() / CALL_BYTES);
+            outcome(Answer::Planned(answer), &lent, &room, written)
+        }
+        Input::Accept {
+            net,
+            calls,
+            settings,
+        } => {
+            let lent = [Lent::new(calls), Lent::new(settings)];
+            let answer = entries.accept(*net, lent[0].bytes(), lent[1].bytes());
+            outcome(Answer::Verdict(answer), &lent, &Lent::new(&[]), 0)
+        }
+        Input::Read { file } => {
+            let lent = [Lent::new(file)];
+            let answer = entries.read(lent[0].bytes());
+            outcome(Answer::Told(answer), &lent, &Lent::new(&[]), 0)
+        }
+        Input::WriteCalls {
+            net,
+            note,
+            calls,
+            settings,
+            out,
+        } => {
+            let lent = [Lent::new(note), Lent::new(calls), Lent::new(settings)];
+            let mut room = Lent::new(out);
+            let [note, calls, settings] = [lent[0].bytes(), lent[1].bytes(), lent[2].bytes()];
+            let answer = entries.write_calls(*net, note, calls, settings, room.bytes_mut());
+            let written = note.len() + calls.len() + TRAILER_BYTES;
+            outcome(Answer::Verdict(answer), &lent, &room, written)
+        }
+        Input::WritePlanned {
+            net,
+            note,
+            calls,
+            settings,
+            out,
+        } => {
+            let lent = [Lent::new(note), Lent::new(calls), Lent::new(settings)];
+            let mut room = Lent::new(out);
+            let [note, calls, settings] = [lent[0].bytes(), lent[1].bytes(), lent[2].bytes()];
+            let answer = entries.write_planned(*net, note, calls, settings, room.bytes_mut());
+            let written = note.len() + calls.len() + settings.len() + TRAILER_BYTES;
+            outcome(Answer::Verdict(answer), &lent, &room, written)
+        }
+    }
+}
+
+fn outcome(answer: Answer, lent: &[Lent], room: &Lent, written: usize) -> Outcome {
+    Outcome {
+        answer,
+        room: room.bytes().to_vec(),
+        broken: broken_sentence(&answer, lent, room, written),
+    }
+}
+
+/// The first sentence that a call broke, whatever was asked. `written` is what success writes.
+fn broken_sentence(
+    answer: &Answer,
+    lent: &[Lent],
+    room: &Lent,
+    written: usize,
+) -> Option<&'static str> {
+    if !lent.iter().all(Lent::is_unchanged) {
+        return Some("a buffer that is only read keeps its bytes and its guard bytes");
+    }
+    if answer.number() > 16 {
+        return Some("numbers are 0 to 16");
+    }
+    if answer.number() != 0 {
+        if !room.is_unchanged() {
+            return Some("a refusal writes nothing anywhere");
+        }
+        if answer.numbers()[2..].iter().any(|&number| number != 0) {
+            return Some("a refusal has moved 0, and a refused read tells zero for all");
+        }
+        return None;
+    }
+    if room.bytes().len() < written {
+        return Some("success needs room for all that is written");
+    }
+    if !room.is_unchanged_from(written) {
+        return Some("bytes beyond those written keep their values");
+    }
+    None
+}
+
+// Two implementations on one input.
+
+/// Lets both implementations answer the input; answers, rooms and the document's sentences are
+/// compared.
+pub fn compare_all(
+    left: &dyn Entries,
+    right: &dyn Entries,
+    input: &Input,
+) -> Result<Seen, Difference> {
+    let at_left = run(left, input);
+    let at_right = run(right, input);
+    let differ = |what: String| {
+        Err(Difference {
+            what,
+            input: input.clone(),
+        })
+    };
+    if let Some(sentence) = at_left.broken {
+        return differ(format!("left breaks: {}", sentence));
+    }
+    if let Some(sentence) = at_right.broken {
+        return differ(format!("right breaks: {}", sentence));
+    }
+    if at_left.answer != at_right.answer {
+        return differ(format!(
+            "answers: left {:?}, right {:?}",
+            at_left.answer, at_right.answer
+        ));
+    }
+    if let Some(place) = first_difference(&at_left.room, &at_right.room) {
+        return differ(format!(
+            "byte {} of the room: left {}, right {}",
+            place, at_left.room[place], at_right.room[place]
+        ));
+    }
+    Ok(Seen {
+        entry: input.entry(),
+        number: at_left.answer.number(),
+    })
+}
+
+fn first_difference(left: &[u8], right: &[u8]) -> Option<usize> {
+    left.iter().zip(right).position(|(one, other)| one != other)
+}
+
+// Two implementations on every small input.
+
+/// Two implementations under comparison, and what they have been seen to answer.
+struct Pair<'a> {
+    left: &'a dyn Entries,
+    right: &'a dyn Entries,
+    coverage: Coverage,
+}
+
+impl Pair<'_> {
+    fn compare(&mut self, input: Input) -> Result<(), Difference> {
+        self.coverage
+            .add(compare_all(self.left, self.right, &input)?);
+        Ok(())
+    }
+}
+
+/// Compares both implementations on every small input: some hundred thousand for each of planner
+/// and acceptance.
+pub fn compare_exhaustively(
+    left: &dyn Entries,
+    right: &dyn Entries,
+) -> Result<Coverage, Difference> {
+    let mut pair = Pair {
+        left,
+        right,
+        coverage: Coverage::default(),
+    };
+    plan_small_tables(&mut pair)?;
+    plan_sound_tables(&mut pair)?;
+    plan_pairs(&mut pair)?;
+    accept_one_row(&mut pair)?;
+    accept_two_rows(&mut pair)?;
+    write_and_read_one_row(&mut pair)?;
+    read_damaged_files(&mut pair)?;
+    try_rooms(&mut pair)?;
+    Ok(pair.coverage)
+}
+
+/// All networks with each size from 0 to the highest.
+fn networks(highest: usize) -> Vec<Network> {
+    let mut networks = Vec::new();
+    for n in 0..=highest {
+        for m in 0..=highest {
+            for r in 0..=highest {
+                networks.push(Network { n, m, r });
+            }
+        }
+    }
+    networks
+}
+
+/// All strings of so many bytes with each byte from 0 to the highest.
+fn strings(length: usize, highest: u8) -> impl Iterator<Item = Vec<u8>> {
+    let base = usize::from(highest) + 1;
+    (0..base.pow(length as u32)).map(move |number| {
+        let mut rest = number;
+        let mut string = Vec::with_capacity(length);
+        for _ in 0..length {
+            string.push((rest % base) as u8);
+            rest /= base;
+        }
+        string
+    })
+}
+
+fn plan_input(net: Network, calls: Vec<u8>) -> Input {
+    let count = calls.len() / CALL_BYTES;
+    Input::Plan {
+        net,
+        calls,
+        settings: filled(SETTING_BYTES * count + 2),
+    }
+}
+
+/// Every network with sizes up to 2, every table of up to two rows with numbers up to 2.
+fn plan_small_tables(pair: &mut Pair) -> Result<(), Difference> {
+    for net in networks(2) {
+        for rows in 0..=2 {
+            for calls in strings(CALL_BYTES * rows, 2) {
+                pair.compare(plan_input(net, calls))?;
+            }
+        }
+    }
+    Ok(())
+}
+
+/// Tables of three rows, and for 2-2-2 of four, with numbers up to 1.
+fn plan_sound_tables(pair: &mut Pair) -> Result<(), Difference> {
+    for net in networks(2) {
+        for calls in strings(CALL_BYTES * 3, 1) {
+            pair.compare(plan_input(net, calls))?;
+        }
+    }
+    let net = Network { n: 2, m: 2, r: 2 };
+    for calls in strings(CALL_BYTES * 4, 1) {
+        pair.compare(plan_input(net, calls))?;
+    }
+    Ok(())
+}
+
+/// Tables of four and five calls between any of three input modules and three output modules, each
+/// on the next channel of its modules, with two channels and then three, and two centrals: chains,
+/// full modules, and one too many.
+fn plan_pairs(pair: &mut Pair) -> Result<(), Difference> {
+    for n in 2..=3 {
+        let net = Network { n, m: 2, r: 3 };
+        for rows in 4..=5 {
+            for modules in strings(2 * rows, 2) {
+                let pairs: Vec<(usize, usize)> = modules
+                    .chunks_exact(2)
+                    .map(|two| (usize::from(two[0]), usize::from(two[1])))
+                    .collect();
+                pair.compare(plan_input(net, calls_of_pairs(&pairs)))?;
+            }
+        }
+    }
+    Ok(())
+}
+
+/// Every network with sizes up to 3, every row with numbers up to 2, every settings row with
+/// numbers up to 3.
+fn accept_one_row(pair: &mut Pair) -> Result<(), Difference> {
+    for net in networks(3) {
+        for calls in strings(CALL_BYTES, 2) {
+            for settings in strings(SETTING_BYTES, 3) {
+                pair.compare(Input::Accept {
+                    net,
+                    calls: calls.clone(),
+                    settings,
+                })?;
+            }
+        }
+    }
+    Ok(())
+}
+
+/// 2-2-2: every table of two rows with numbers up to 1, every settings with numbers up to 2.
+fn accept_two_rows(pair: &mut Pair) -> Result<(), Difference> {
+    let net = Network { n: 2, m: 2, r: 2 };
+    for calls in strings(CALL_BYTES * 2, 1) {
+        for settings in strings(SETTING_BYTES * 2, 2) {
+            pair.compare(Input::Accept {
+                net,
+                calls: calls.clone(),
+                settings,
+            })?;
+        }
+    }
+    Ok(())
+}
+
+/// Every network with sizes up to 2, one row with numbers up to 2: written and read, calls only and
+/// planned.
+fn write_and_read_one_row(pair: &mut Pair) -> Result<(), Difference> {
+    let note = filled(1);
+    for net in networks(2) {
+        for calls in strings(CALL_BYTES, 2) {
+            pair.compare(Input::WriteCalls {
+                net,
+                note: note.clone(),
+                calls: calls.clone(),
+                settings: Vec::new(),
+                out: filled(19),
+            })?;
+            pair.compare(Input::Read {
+                file: file_of(KIND_CALLS, net, &note, &calls, &[]),
+            })?;
+            for settings in strings(SETTING_BYTES, 2) {
+                pair.compare(Input::Read {
+                    file: file_of(KIND_PLANNED, net, &note, &calls, &settings),
+                })?;
+                pair.compare(Input::WritePlanned {
+                    net,
+                    note: note.clone(),
+                    calls: calls.clone(),
+                    settings,
+                    out: filled(22),
+                })?;
+            }
+        }
+    }
+    Ok(())
+}
+
+/// Two files of each kind: every value of every byte, and every cut at either end.
+fn read_damaged_files(pair: &mut Pair) -> Result<(), Difference> {
+    let net = Network { n: 2, m: 2, r: 2 };
+    let calls = [0, 0, 0, 0, 1, 0, 1, 0];
+    let settings = [0, 0, 0, 1, 0, 1];
+    let files = [
+        file_of(KIND_CALLS, net, &[], &[], &[]),
+        file_of(KIND_CALLS, net, &[7, 8, 9], &calls, &[]),
+        file_of(KIND_PLANNED, net, &[], &[], &[]),
+        file_of(KIND_PLANNED, net, &[7], &calls, &settings),
+    ];
+    for file in &files {
+        for place in 0..file.len() {
+            for byte in 0..=255 {
+                let mut damaged = file.clone();
+                damaged[place] = byte;
+                pair.compare(Input::Read { file: damaged })?;
+            }
+        }
+        for cut in 0..=file.len() {
+            pair.compare(Input::Read {
+                file: file[..cut].to_vec(),
+            })?;
+            pair.compare(Input::Read {
+                file: file[cut..].to_vec(),
+            })?;
+        }
+    }
+    Ok(())
+}
+
+/// Rooms of every length around what is needed, and notes around 255 bytes.
+fn try_rooms(pair: &mut Pair) -> Result<(), Difference> {
+    let net = Network { n: 2, m: 2, r: 2 };
+    let calls = [0, 0, 0, 0, 1, 0, 1, 0];
+    let settings = [0, 0, 0, 1, 0, 1];
+    for room in 0..=300 {
+        pair.compare(Input::Plan {
+            net,
+            calls: calls.to_vec(),
+            settings: filled(room),
+        })?;
+        for note in [0, 1, 254, 255, 256, 257] {
+            pair.compare(Input::WriteCalls {
+                net,
+                note: filled(note),
+                calls: calls.to_vec(),
+                settings: Vec::new(),
+                out: filled(room),
+            })?;
+            pair.compare(Input::WritePlanned {
+                net,
+                note: filled(note),
+                calls: calls.to_vec(),
+                settings: settings.to_vec(),
+                out: filled(room),
+            })?;
+        }
+    }
+    Ok(())
+}

@@ -1,0 +1,849 @@
+//! Drawn inputs for all five entries, the same for the same seed.
+
+use crate::plain::Plain;
+use crate::{
+    Entries, Network, CALL_BYTES, KIND_CALLS, KIND_PLANNED, LONGEST_NOTE, MARK, SETTING_BYTES,
+    TRAILER_BYTES,
+};
+
+/// The entries, in the order of their numbers in stored inputs.
+#[derive(Clone, Copy, PartialEq, Eq, Debug)]
+pub enum Entry {
+    Plan,
+    Accept,
+    Read,
+    WriteCalls,
+    WritePlanned,
+}
+
+impl Entry {
+    pub const ALL: [Entry; 5] = [
+        Entry::Plan,
+        Entry::Accept,
+        Entry::Read,
+        Entry::WriteCalls,
+        Entry::WritePlanned,
+    ];
+}
+
+/// An input of one entry, with the bytes that a buffer to be written holds before.
+#[derive(Clone, PartialEq, Eq, Debug)]
+pub enum Input {
+    Plan {
+        net: Network,
+        calls: Vec<u8>,
+        settings: Vec<u8>,
+    },
+    Accept {
+        net: Network,
+        calls: Vec<u8>,
+        settings: Vec<u8>,
+    },
+    Read {
+        file: Vec<u8>,
+    },
+    WriteCalls {
+        net: Network,
+        note: Vec<u8>,
+        calls: Vec<u8>,
+        settings: Vec<u8>,
+        out: Vec<u8>,
+    },
+    WritePlanned {
+        net: Network,
+        note: Vec<u8>,
+        calls: Vec<u8>,
+        settings: Vec<u8>,
+        out: Vec<u8>,
+    },
+}
+
+impl Input {
+    pub fn entry(&self) -> Entry {
+        match self {
+            Input::Plan { .. } => Entry::Plan,
+            Input::Accept { .. } => Entry::Accept,
+            Input::Read { .. } => Entry::Read,
+            Input::WriteCalls { .. } => Entry::WriteCalls,
+            Input::WritePlanned { .. } => Entry::WritePlanned,
+        }
+    }
+}
+
+/// A small source of drawn numbers (splitmix64).
+pub struct Random {
+    state: u64,
+}
+
+impl Random {
+    pub fn seeded(seed: u64) -> Random {
+        Random { state: seed }
+    }
+
+    pub fn number(&mut self) -> u64 {
+        self.state = self.state.wrapping_add(0x9E37_79B9_7F4A_7C15);
+        let mut mixed = self.state;
+        mixed = (mixed ^ (mixed >> 30)).wrapping_mul(0xBF58_476D_1CE4_E5B9);
+        mixed = (mixed ^ (mixed >> 27)).wrapping_mul(0x94D0_49BB_1331_11EB);
+        mixed ^ (mixed >> 31)
+    }
+
+    /// A number below the limit, which is above 0.
+    pub fn below(&mut self, limit: usize) -> usize {
+        (self.number() % limit as u64) as usize
+    }
+
+    /// A number from the lowest to the highest, both possible.
+    pub fn between(&mut self, lowest: usize, highest: usize) -> usize {
+        lowest + self.below(highest - lowest + 1)
+    }
+
+    pub fn byte(&mut self) -> u8 {
+        self.number() as u8
+    }
+
+    /// True once in so many times.
+    pub fn once_in(&mut self, times: usize) -> bool {
+        self.below(times) == 0
+    }
+
+    pub fn bytes(&mut self, length: usize) -> Vec<u8> {
+        (0..length).map(|_| self.byte()).collect()
+    }
+
+    pub fn pick<T: Copy>(&mut self, from: &[T]) -> T {
+        from[self.below(from.len())]
+    }
+
+    pub fn shuffle<T>(&mut self, list: &mut [T]) {
+        for place in (1..list.len()).rev() {
+            list.swap(place, self.below(place + 1));
+        }
+    }
+
+    /// The numbers below the limit in drawn order.
+    pub fn order(&mut self, limit: usize) -> Vec<usize> {
+        let mut order: Vec<usize> = (0..limit).collect();
+        self.shuffle(&mut order);
+        order
+    }
+}
+
+/// Draws an input of any of the five entries.
+pub fn draw(random: &mut Random) -> Input {
+    match random.below(10) {
+        0..=2 => draw_plan(random),
+        3 | 4 => draw_accept(random),
+        5 | 6 => draw_read(random),
+        7 => draw_write_calls(random),
+        _ => draw_write_planned(random),
+    }
+}
+
+fn draw_plan(random: &mut Random) -> Input {
+    let table = draw_table(random);
+    let calls = draw_calls_length(random, table.calls);
+    let needed = SETTING_BYTES * (calls.len() / CALL_BYTES);
+    Input::Plan {
+        net: draw_sizes(random, table.net),
+        calls,
+        settings: draw_room(random, needed),
+    }
+}
+
+fn draw_accept(random: &mut Random) -> Input {
+    let table = draw_table(random);
+    let settings = draw_settings(random, &table);
+    Input::Accept {
+        net: draw_sizes(random, table.net),
+        calls: draw_calls_length(random, table.calls),
+        settings: draw_settings_length(random, settings),
+    }
+}
+
+fn draw_write_calls(random: &mut Random) -> Input {
+    let table = draw_table(random);
+    let note = draw_note_to_write(random);
+    let calls = draw_calls_length(random, table.calls);
+    let settings = match random.below(12) {
+        0 => random.bytes(1),
+        1 => random.bytes(SETTING_BYTES * (calls.len() / CALL_BYTES)),
+        _ => Vec::new(),
+    };
+    let needed = note.len() + calls.len() + TRAILER_BYTES;
+    Input::WriteCalls {
+        net: draw_sizes(random, table.net),
+        note,
+        calls,
+        settings,
+        out: draw_room(random, needed),
+    }
+}
+
+fn draw_write_planned(random: &mut Random) -> Input {
+    let table = draw_table(random);
+    let settings = draw_settings(random, &table);
+    let note = draw_note_to_write(random);
+    let calls = draw_calls_length(random, table.calls);
+    let settings = draw_settings_length(random, settings);
+    let needed = note.len() + calls.len() + settings.len() + TRAILER_BYTES;
+    Input::WritePlanned {
+        net: draw_sizes(random, table.net),
+        note,
+        calls,
+        settings,
+        out: draw_room(random, needed),
+    }
+}
+
+fn draw_read(random: &mut Random) -> Input {
+    let file = if random.once_in(30) {
+        let length = random.between(0, 80);
+        random.bytes(length)
+    } else {
+        draw_file(random)
+    };
+    Input::Read { file }
+}
+
+// Sizes, lengths and rooms.
+
+/// Nine times of ten the sizes themselves; otherwise one of them is at a limit, over it, huge, or
+/// such that it would be right if cut to 8, 16 or 32 bits.
+fn draw_sizes(random: &mut Random, net: Network) -> Network {
+    if !random.once_in(10) {
+        return net;
+    }
+    let size = random.below(3);
+    let right = [net.n, net.m, net.r][size];
+    let outside = random.pick(&[
+        0,
+        16,
+        17,
+        32,
+        33,
+        64,
+        65,
+        255,
+        256,
+        257,
+        65_537,
+        usize::MAX,
+        right + (1 << 8),
+        right + (1 << 16),
+        right + (1 << 32),
+        right + (1 << 63),
+    ]);
+    match size {
+        0 => Network { n: outside, ..net },
+        1 => Network { m: outside, ..net },
+        _ => Network { r: outside, ..net },
+    }
+}
+
+/// Now and then some bytes more or fewer than whole rows.
+fn draw_calls_length(random: &mut Random, mut calls: Vec<u8>) -> Vec<u8> {
+    if random.once_in(20) {
+        let surplus = random.between(1, 3);
+        if random.once_in(2) {
+            calls.extend(random.bytes(surplus));
+        } else {
+            calls.truncate(calls.len().saturating_sub(surplus));
+        }
+    }
+    calls
+}
+
+/// Now and then some bytes more or fewer than 3 for each call.
+fn draw_settings_length(random: &mut Random, mut settings: Vec<u8>) -> Vec<u8> {
+    if random.once_in(20) {
+        let surplus = random.between(1, 4);
+        if random.once_in(2) {
+            settings.extend(random.bytes(surplus));
+        } else {
+            settings.truncate(settings.len().saturating_sub(surplus));
+        }
+    }
+    settings
+}
+
+/// A room that is exact, one less, more, none, or so large that its length would not do if cut to
+/// 16 bits.
+fn draw_room(random: &mut Random, needed: usize) -> Vec<u8> {
+    let length = match random.below(40) {
+        0..=19 => needed,
+        20..=22 => needed.saturating_sub(1),
+        23..=36 => needed + random.between(1, 40),
+        37 | 38 => 0,
+        _ if random.once_in(4) => 65_536 + random.below(needed + 1),
+        _ => needed + 1000,
+    };
+    random.bytes(length)
+}
+
+/// A note of 0, 1, any allowed, or 255 bytes; now and then one that may not be written.
+fn draw_note_to_write(random: &mut Random) -> Vec<u8> {
+    if !random.once_in(12) {
+        return draw_note(random);
+    }
+    let length = match random.below(8) {
+        0..=3 => LONGEST_NOTE + 1,
+        4 => 257,
+        5 => 512,
+        6 => random.between(256, 900),
+        _ => 65_536 + random.below(3),
+    };
+    random.bytes(length)
+}
+
+fn draw_note(random: &mut Random) -> Vec<u8> {
+    let length = match random.below(8) {
+        0..=2 => 0,
+        3 => 1,
+        4 => LONGEST_NOTE,
+        5 => random.between(0, LONGEST_NOTE),
+        _ => random.between(0, 20),
+    };
+    random.bytes(length)
+}
+
+// Call tables.
+
+/// A network within its limits and the bytes of a call table for it, with or without fault.
+pub struct Table {
+    pub net: Network,
+    pub calls: Vec<u8>,
+}
+
+/// Draws a table of any kind; most are small.
+fn draw_table(random: &mut Random) -> Table {
+    match random.below(200) {
+        0 => draw_largest(random),
+        1 => draw_too_many(random),
+        2 => draw_largest_ladder(random),
+        3..=6 => draw_full(random),
+        7..=12 => draw_ladder(random),
+        13..=15 => draw_path(random),
+        16..=29 => draw_overfull(random),
+        30..=36 => draw_random_bytes(random),
+        37..=80 => {
+            let mut table = draw_sound(random);
+            spoil_calls(random, &mut table);
+            table
+        }
+        81..=110 => draw_small_full(random),
+        _ => draw_sound(random),
+    }
+}
+
+fn draw_small_network(random: &mut Random) -> Network {
+    Network {
+        n: random.between(1, 4),
+        m: random.between(1, 5),
+        r: random.between(1, 6),
+    }
+}
+
+fn draw_network(random: &mut Random) -> Network {
+    if !random.once_in(4) {
+        return draw_small_network(random);
+    }
+    Network {
+        n: random.between(1, Network::MOST_CHANNELS),
+        m: random.between(1, Network::MOST_CENTRALS),
+        r: random.between(1, Network::MOST_MODULES),
+    }
+}
+
+/// Distinct inlets to distinct outlets, well spread: up to 30 of them.
+fn draw_sound(random: &mut Random) -> Table {
+    let net = draw_network(random);
+    let most = (net.n * net.r).min(30);
+    let wanted = random.between(0, most);
+    Table {
+        net,
+        calls: spread_calls(random, net, wanted),
+    }
+}
+
+/// So many distinct inlets to distinct outlets, in drawn order.
+pub fn spread_calls(random: &mut Random, net: Network, wanted: usize) -> Vec<u8> {
+    let inlets = random.order(net.n * net.r);
+    let outlets = random.order(net.n * net.r);
+    inlets
+        .iter()
+        .zip(&outlets)
+        .take(wanted)
+        .flat_map(|(&inlet, &outlet)| call_of(net, inlet, outlet))
+        .collect()
+}
+
+/// The call row from an inlet to an outlet, both by number: module by module, channel by channel.
+fn call_of(net: Network, inlet: usize, outlet: usize) -> [u8; CALL_BYTES] {
+    [
+        (inlet / net.n) as u8,
+        (inlet % net.n) as u8,
+        (outlet / net.n) as u8,
+        (outlet % net.n) as u8,
+    ]
+}
+
+/// Every inlet, or nearly every, of a small network with hardly a central to spare: chains are
+/// frequent.
+fn draw_small_full(random: &mut Random) -> Table {
+    let n = random.between(1, 4);
+    let net = Network {
+        n,
+        m: n + random.pick(&[0, 0, 0, 1]),
+        r: random.between(1, 8),
+    };
+    draw_dense(random, net)
+}
+
+/// Every inlet, or nearly every, of a network of any size.
+fn draw_full(random: &mut Random) -> Table {
+    let n = random.between(1, Network::MOST_CHANNELS);
+    let net = Network {
+        n,
+        m: n + random.pick(&[0, 0, 1, 5]),
+        r: random.between(1, 40),
+    };
+    draw_dense(random, net)
+}
+
+/// Three quarters to all inlets, in one of several row orders.
+fn draw_dense(random: &mut Random, net: Network) -> Table {
+    let inlets = net.n * net.r;
+    let wanted = if random.once_in(2) {
+        inlets
+    } else {
+        random.between(inlets - inlets / 4, inlets)
+    };
+    let calls = spread_calls(random, net, wanted);
+    Table {
+        net,
+        calls: draw_row_order(random, calls),
+    }
+}
+
+/// The rows as they stand, or sorted by input module, or by output module downwards, or by channel,
+/// or even rows first.
+fn draw_row_order(random: &mut Random, calls: Vec<u8>) -> Vec<u8> {
+    let mut rows: Vec<&[u8]> = calls.chunks_exact(CALL_BYTES).collect();
+    match random.below(5) {
+        0 => rows.sort_by_key(|row| row[0]),
+        1 => rows.sort_by_key(|row| 255 - row[2]),
+        2 => rows.sort_by_key(|row| row[1]),
+        3 => {
+            rows.sort_by_key(|row| row[0]);
+            let (even, odd): (Vec<usize>, Vec<usize>) =
+                (0..rows.len()).partition(|row| row % 2 == 0);
+            rows = even.into_iter().chain(odd).map(|row| rows[row]).collect();
+        }
+        _ => {}
+    }
+    rows.concat()
+}
+
+/// The largest network, 1,023 or 1,024 calls.
+fn draw_largest(random: &mut Random) -> Table {
+    let net = Network {
+        n: 16,
+        m: random.pick(&[16, 17, 32]),
+        r: 64,
+    };
+    let wanted = random.between(Network::MOST_ROWS - 1, Network::MOST_ROWS);
+    let calls = spread_calls(random, net, wanted);
+    Table {
+        net,
+        calls: draw_row_order(random, calls),
+    }
+}
+
+/// More than 1,024 rows; now and then so many that K would do if cut to 16 bits, or to 8.
+fn draw_too_many(random: &mut Random) -> Table {
+    let net = Network {
+        n: 16,
+        m: 32,
+        r: 64,
+    };
+    let count = match random.below(12) {
+        0 => 65_536 + random.below(3),
+        1 => 1280,
+        2 => random.between(1026, 1400),
+        _ => 1025,
+    };
+    let mut calls = spread_calls(random, net, Network::MOST_ROWS);
+    while calls.len() < CALL_BYTES * count {
+        let again = calls.clone();
+        calls.extend(again);
+    }
+    calls.truncate(CALL_BYTES * count);
+    Table { net, calls }
+}
+
+/// One module of either side has more calls than there are centrals.
+fn draw_overfull(random: &mut Random) -> Table {
+    let n = random.between(2, 6);
+    let net = Network {
+        n,
+        m: random.between(1, n - 1),
+        r: random.between(1, 6),
+    };
+    let most = net.n * net.r;
+    let inlets = random.order(most);
+    let outlets = random.order(most);
+    let module = random.below(net.r);
+    let at_input = random.once_in(2);
+    let mut rows: Vec<[u8; CALL_BYTES]> = inlets
+        .iter()
+        .zip(&outlets)
+        .map(|(&inlet, &outlet)| call_of(net, inlet, outlet))
+        .collect();
+    rows.retain(|row| usize::from(row[if at_input { 0 } else { 2 }]) == module);
+    rows.truncate(net.m + 1);
+    let further = random.between(0, 4);
+    let free: Vec<[u8; CALL_BYTES]> = inlets
+        .iter()
+        .zip(&outlets)
+        .map(|(&inlet, &outlet)| call_of(net, inlet, outlet))
+        .filter(|row| !rows.contains(row))
+        .take(further)
+        .collect();
+    rows.extend(free);
+    random.shuffle(&mut rows);
+    Table {
+        net,
+        calls: rows.concat(),
+    }
+}
+
+/// Rows of any bytes, or of bytes that are small.
+fn draw_random_bytes(random: &mut Random) -> Table {
+    let length = random.between(0, 60);
+    let highest = random.pick(&[2, 4, 64, 256]);
+    Table {
+        net: draw_network(random),
+        calls: (0..length).map(|_| random.below(highest) as u8).collect(),
+    }
+}
+
+/// Puts one or two faults into a table: a number outside, a repeated inlet, a repeated outlet.
+fn spoil_calls(random: &mut Random, table: &mut Table) {
+    let count = table.calls.len() / CALL_BYTES;
+    if count < 2 {
+        return;
+    }
+    for _ in 0..random.between(1, 2) {
+        let row = CALL_BYTES * random.below(count);
+        let other = CALL_BYTES * random.below(count);
+        match random.below(3) {
+            0 => {
+                let place = random.below(CALL_BYTES);
+                let limit = if place % 2 == 0 {
+                    table.net.r
+                } else {
+                    table.net.n
+                };
+                table.calls[row + place] = random.pick(&[limit as u8, 255]);
+            }
+            1 => table.calls.copy_within(other..other + 2, row),
+            _ => table.calls.copy_within(other + 2..other + 4, row + 2),
+        }
+    }
+}
+
+// Ladders: call tables made so that chains are long.
+
+/// Calls by pairs of an input module and an output module; a call takes the next channel of each.
+/// Pairs beyond the channels of a module are not to be given.
+pub fn calls_of_pairs(pairs: &[(usize, usize)]) -> Vec<u8> {
+    let mut at_inputs = [0u8; 256];
+    let mut at_outputs = [0u8; 256];
+    let mut calls = Vec::new();
+    for &(input_module, output_module) in pairs {
+        calls.extend([
+            input_module as u8,
+            at_inputs[input_module],
+            output_module as u8,
+            at_outputs[output_module],
+        ]);
+        at_inputs[input_module] += 1;
+        at_outputs[output_module] += 1;
+    }
+    calls
+}
+
+/// A ladder with two calls at each module, where the number of modules is 1 more than a multiple of
+/// 3: a path of calls on two centrals in turn, to whose end at an output module each step joins a
+/// shorter path. The joining call finds the two ends without a common free central, so the chain
+/// runs over the whole path built before it.
+pub fn ladder(modules: usize) -> Vec<(usize, usize)> {
+    let mut pairs = vec![(0, 0)];
+    let mut end = 0;
+    let mut next = 1;
+    while next + 3 <= modules {
+        // The end is on the lower central: a path of three calls, of which the middle one is on the
+        // lower.
+        pairs.extend([(next, next), (next + 1, next), (next, next + 1)]);
+        pairs.push((next + 1, end));
+        // Now the end is on the upper central: a single call, on the lower.
+        pairs.push((next + 2, next + 2));
+        pairs.push((next + 2, next + 1));
+        end = next + 2;
+        next += 3;
+    }
+    // The path is closed to a ring, so that every module has two calls.
+    pairs.push((0, end));
+    pairs
+}
+
+/// A path of calls to and fro, on two centrals in turn, from output module 0 over all but two input
+/// modules, and then a call to output module 0 from an input module that has its one call on the
+/// upper central: one chain over the path.
+pub fn path(modules: usize) -> Vec<(usize, usize)> {
+    let last = modules - 1;
+    let mut pairs = Vec::new();
+    for module in 0..modules - 2 {
+        pairs.push((module, module));
+        pairs.push((module, module + 1));
+    }
+    pairs.extend([(last - 1, last), (last, last)]);
+    pairs.push((last, 0));
+    pairs
+}
+
+/// So many rounds with one call at each module, which take the lowest centrals one after the other,
+/// and then a ladder, which has the next two for itself if there are no others. The modules are
+/// renamed by the orders given.
+pub fn rounds_and_ladder(rounds: usize, inputs: &[usize], outputs: &[usize]) -> Vec<u8> {
+    let modules = inputs.len();
+    let mut pairs = Vec::new();
+    for round in 0..rounds {
+        pairs.extend((0..modules).map(|module| (module, (module + round) % modules)));
+    }
+    pairs.extend(ladder(modules));
+    let renamed: Vec<(usize, usize)> = pairs
+        .iter()
+        .map(|&(input, output)| (inputs[input], outputs[output]))
+        .collect();
+    calls_of_pairs(&renamed)
+}
+
+fn draw_rounds_and_ladder(random: &mut Random, rounds: usize, modules: usize) -> Table {
+    let inputs = random.order(modules);
+    let outputs = random.order(modules);
+    Table {
+        net: Network {
+            n: rounds + 2,
+            m: rounds + 2,
+            r: modules,
+        },
+        calls: rounds_and_ladder(rounds, &inputs, &outputs),
+    }
+}
+
+/// A ladder after few rounds or none.
+fn draw_ladder(random: &mut Random) -> Table {
+    let modules = 1 + 3 * random.between(1, 21);
+    let rounds = random.pick(&[0, 0, 0, 1, 2]);
+    draw_rounds_and_ladder(random, rounds, modules)
+}
+
+/// A ladder after as many rounds as the largest network takes: 1,024 calls.
+fn draw_largest_ladder(random: &mut Random) -> Table {
+    draw_rounds_and_ladder(random, 14, 64)
+}
+
+/// A path and the call that joins its ends.
+fn draw_path(random: &mut Random) -> Table {
+    let modules = random.between(3, Network::MOST_MODULES);
+    Table {
+        net: Network {
+            n: random.pick(&[2, 3]),
+            m: 2,
+            r: modules,
+        },
+        calls: calls_of_pairs(&path(modules)),
+    }
+}
+
+// Settings.
+
+/// The planner's settings where it gives some, otherwise guessed ones; then damaged in no row, in
+/// one, or in two, or twice in one row.
+fn draw_settings(random: &mut Random, table: &Table) -> Vec<u8> {
+    let count = table.calls.len() / CALL_BYTES;
+    let mut settings = vec![0; SETTING_BYTES * count];
+    if Plain.plan(table.net, &table.calls, &mut settings).number != 0 {
+        settings = guessed_settings(random, table);
+    }
+    if count == 0 || random.once_in(3) {
+        return settings;
+    }
+    let first = random.below(count);
+    damage_setting(random, table, &mut settings, first);
+    match random.below(3) {
+        0 => damage_setting(random, table, &mut settings, first),
+        1 => {
+            let second = random.below(count);
+            damage_setting(random, table, &mut settings, second);
+        }
+        _ => {}
+    }
+    settings
+}
+
+/// Each call through a drawn central.
+fn guessed_settings(random: &mut Random, table: &Table) -> Vec<u8> {
+    table
+        .calls
+        .chunks_exact(CALL_BYTES)
+        .flat_map(|call| setting_of(table.net, call, random.below(table.net.m)))
+        .collect()
+}
+
+/// The settings row that a call needs on a central.
+pub fn setting_of(net: Network, call: &[u8], central: usize) -> [u8; SETTING_BYTES] {
+    let cycle = net.cycle();
+    [
+        ((usize::from(call[0]) + central) % cycle) as u8,
+        central as u8,
+        ((central + usize::from(call[2])) % cycle) as u8,
+    ]
+}
+
+/// Damages a settings row so that one of 9 to 13 is likely to hold of it.
+fn damage_setting(random: &mut Random, table: &Table, settings: &mut [u8], row: usize) {
+    let cycle = table.net.cycle();
+    let setting = &mut settings[SETTING_BYTES * row..SETTING_BYTES * (row + 1)];
+    match random.below(8) {
+        0 => setting[random.below(SETTING_BYTES)] = random.byte(),
+        1 => setting[0] = ((usize::from(setting[0]) + 1) % cycle) as u8,
+        2 => setting[2] = ((usize::from(setting[2]) + 1) % cycle) as u8,
+        3 => {
+            let place = random.pick(&[0, 2]);
+            setting[place] = setting[place].saturating_add(cycle as u8);
+        }
+        4 => setting[1] = random.pick(&[table.net.m as u8, 255]),
+        5 => borrow_central(random, table, settings, row, 0),
+        6 => borrow_central(random, table, settings, row, 2),
+        _ => {
+            let call = &table.calls[CALL_BYTES * row..];
+            let central = random.below(table.net.m);
+            setting.copy_from_slice(&setting_of(table.net, call, central));
+        }
+    }
+}
+
+/// Puts a row on the central of an earlier row at the same module of one side, if there is one. The
+/// wavelengths are kept or set right.
+fn borrow_central(
+    random: &mut Random,
+    table: &Table,
+    settings: &mut [u8],
+    row: usize,
+    side: usize,
+) {
+    let call = &table.calls[CALL_BYTES * row..CALL_BYTES * (row + 1)];
+    let earlier = table
+        .calls
+        .chunks_exact(CALL_BYTES)
+        .take(row)
+        .position(|other| other[side] == call[side]);
+    if let Some(other) = earlier {
+        let central = settings[SETTING_BYTES * other + 1];
+        settings[SETTING_BYTES * row + 1] = central;
+        if !random.once_in(4) {
+            let right = setting_of(table.net, call, usize::from(central));
+            settings[SETTING_BYTES * row..SETTING_BYTES * (row + 1)].copy_from_slice(&right);
+        }
+    }
+}
+
+// Files.
+
+/// A file as the document lays it out, without any check; numbers too large for their bytes are
+/// cut.
+pub fn file_of(kind: usize, net: Network, note: &[u8], calls: &[u8], settings: &[u8]) -> Vec<u8> {
+    let count = calls.len() / CALL_BYTES;
+    let settings_distance = settings.len();
+    let calls_distance = calls.len() + settings.len();
+    let mut file = [note, calls, settings].concat();
+    file.extend([net.n as u8, net.m as u8, net.r as u8, kind as u8]);
+    for number in [count, settings_distance, calls_distance] {
+        file.extend([(number >> 8) as u8, number as u8]);
+    }
+    file.extend(MARK);
+    file
+}
+
+/// A file of either kind with or without faults in its rows, then damaged half of the time.
+fn draw_file(random: &mut Random) -> Vec<u8> {
+    let table = draw_table(random);
+    let note = draw_note(random);
+    let mut file = if random.once_in(2) {
+        file_of(KIND_CALLS, table.net, &note, &table.calls, &[])
+    } else {
+        let settings = draw_settings(random, &table);
+        file_of(KIND_PLANNED, table.net, &note, &table.calls, &settings)
+    };
+    if random.once_in(2) {
+        damage_file(random, &mut file);
+    }
+    file
+}
+
+/// Places in a trailer.
+const KIND_AT: usize = 3;
+const COUNT_AT: usize = 4;
+const SETTINGS_DISTANCE_AT: usize = 6;
+const CALLS_DISTANCE_AT: usize = 8;
+const MARK_AT: usize = 10;
+
+/// Cuts a file, changes bytes of its trailer, or makes its note too long.
+fn damage_file(random: &mut Random, file: &mut Vec<u8>) {
+    let length = file.len();
+    let trailer_at = length - TRAILER_BYTES;
+    match random.below(12) {
+        0 => file.truncate(random.below(length + 1)),
+        1 => drop(file.drain(..random.below(length + 1))),
+        2 => file[trailer_at + random.below(TRAILER_BYTES)] = random.byte(),
+        3 => step_number(random, file, trailer_at + SETTINGS_DISTANCE_AT),
+        4 => step_number(random, file, trailer_at + CALLS_DISTANCE_AT),
+        5 => step_number(random, file, trailer_at + COUNT_AT),
+        6 => file[trailer_at + KIND_AT] = random.pick(&[0, 1, 2, 3, 255]),
+        7 => file[trailer_at + MARK_AT + random.below(2)] ^= 1 << random.below(8),
+        8 => file[trailer_at + random.below(3)] = random.pick(&[0, 1, 16, 17, 32, 33, 64, 65, 255]),
+        9 => lengthen_note(random, file),
+        10 => {
+            file[trailer_at + COUNT_AT] = random.pick(&[4, 5, 255]);
+            file[trailer_at + COUNT_AT + 1] = random.pick(&[0, 1, 255]);
+        }
+        _ => {
+            let surplus = random.between(1, 4);
+            let bytes = random.bytes(surplus);
+            file.extend(bytes);
+        }
+    }
+}
+
+/// One more or one less, with a carry between the two bytes; past either end it starts anew at the
+/// other.
+fn step_number(random: &mut Random, file: &mut [u8], at: usize) {
+    let number = u16::from_be_bytes([file[at], file[at + 1]]);
+    let stepped = if random.once_in(2) {
+        number.wrapping_add(1)
+    } else {
+        number.wrapping_sub(1)
+    };
+    file[at..at + 2].copy_from_slice(&stepped.to_be_bytes());
+}
+
+/// Puts bytes before a file so that its note has 256 bytes or more, if it had none.
+fn lengthen_note(random: &mut Random, file: &mut Vec<u8>) {
+    let surplus = random.pick(&[255, 256, 257, 512]);
+    let mut longer = random.bytes(surplus);
+    longer.append(file);
+    *file = longer;
+}

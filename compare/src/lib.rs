@@ -1,0 +1,120 @@
+//! Independent answers to the five entries of the shelf's control, and the means to compare two
+//! implementations.
+//!
+//! Everything here is written from the scope document alone: its sentences, its table of numbers
+//! and its bench table.
+
+pub mod comparison;
+pub mod inputs;
+#[cfg(feature = "library")]
+pub mod library;
+pub mod pairs;
+pub mod plain;
+pub mod stored;
+pub mod swift;
+
+/// The three sizes: n channels of each module, m centrals, r input modules and as many output
+/// modules.
+#[derive(Clone, Copy, PartialEq, Eq, Debug)]
+#[repr(C)]
+pub struct Network {
+    pub n: usize,
+    pub m: usize,
+    pub r: usize,
+}
+
+impl Network {
+    /// The largest n.
+    pub const MOST_CHANNELS: usize = 16;
+    /// The largest m.
+    pub const MOST_CENTRALS: usize = 32;
+    /// The largest r.
+    pub const MOST_MODULES: usize = 64;
+    /// The largest K.
+    pub const MOST_ROWS: usize = 1024;
+
+    /// The number of wavelengths inside the shelf: the larger of r and m.
+    pub fn cycle(&self) -> usize {
+        self.r.max(self.m)
+    }
+}
+
+/// Bytes of a call row: input module, its channel, output module, its channel.
+pub const CALL_BYTES: usize = 4;
+/// Bytes of a settings row: wavelength, central, wavelength.
+pub const SETTING_BYTES: usize = 3;
+/// Bytes of the trailer of a plan file.
+pub const TRAILER_BYTES: usize = 12;
+/// The longest note of a plan file.
+pub const LONGEST_NOTE: usize = 255;
+/// The last two bytes of a plan file.
+pub const MARK: [u8; 2] = [0x41, 0x57];
+/// The kind of a file that holds calls only.
+pub const KIND_CALLS: usize = 1;
+/// The kind of a file that holds calls and settings.
+pub const KIND_PLANNED: usize = 2;
+
+/// The answer of acceptance and of the two writers.
+#[derive(Clone, Copy, PartialEq, Eq, Debug)]
+#[repr(C)]
+pub struct Verdict {
+    pub number: usize,
+    pub row: usize,
+}
+
+/// The answer of the planner.
+#[derive(Clone, Copy, PartialEq, Eq, Debug)]
+#[repr(C)]
+pub struct Planned {
+    pub number: usize,
+    pub row: usize,
+    pub moved: usize,
+}
+
+/// The answer of the reader. All but number and row are 0 where the file is refused.
+#[derive(Clone, Copy, PartialEq, Eq, Debug)]
+#[repr(C)]
+pub struct Told {
+    pub number: usize,
+    pub row: usize,
+    pub n: usize,
+    pub m: usize,
+    pub r: usize,
+    pub kind: usize,
+    pub count: usize,
+    pub note_at: usize,
+    pub calls_at: usize,
+    pub settings_at: usize,
+}
+
+/// The five entries. Numbers of any size and slices of any length and content are answered.
+pub trait Entries {
+    /// Plans a call table, and writes its settings to the first 3K bytes of `settings`.
+    fn plan(&self, net: Network, calls: &[u8], settings: &mut [u8]) -> Planned;
+
+    /// Judges given settings of a call table.
+    fn accept(&self, net: Network, calls: &[u8], settings: &[u8]) -> Verdict;
+
+    /// Reads a plan file of either kind.
+    fn read(&self, file: &[u8]) -> Told;
+
+    /// Writes a calls-only file; the settings given have to be of no bytes.
+    fn write_calls(
+        &self,
+        net: Network,
+        note: &[u8],
+        calls: &[u8],
+        settings: &[u8],
+        out: &mut [u8],
+    ) -> Verdict;
+
+    /// Writes a planned file.
+    fn write_planned(
+        &self,
+        net: Network,
+        note: &[u8],
+        calls: &[u8],
+        settings: &[u8],
+        out: &mut [u8],
+    ) -> Verdict;
+}

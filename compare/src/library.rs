@@ -1,0 +1,86 @@
+//! The proved library, as one more implementation of the entries.
+
+use crate::{Entries, Network, Planned, Told, Verdict};
+
+/// The library behind its face for Rust.
+pub struct Library;
+
+impl Entries for Library {
+    fn plan(&self, net: Network, calls: &[u8], settings: &mut [u8]) -> Planned {
+        let planned = bolikwaru::plan(network(net), calls, settings);
+        Planned {
+            number: planned.number,
+            row: planned.row,
+            moved: planned.moved,
+        }
+    }
+
+    fn accept(&self, net: Network, calls: &[u8], settings: &[u8]) -> Verdict {
+        verdict(bolikwaru::accept(network(net), calls, settings))
+    }
+
+    fn read(&self, file: &[u8]) -> Told {
+        let told = bolikwaru::read(file);
+        Told {
+            number: told.number,
+            row: told.row,
+            n: told.n,
+            m: told.m,
+            r: told.r,
+            kind: told.kind,
+            count: told.count,
+            note_at: told.note_at,
+            calls_at: told.calls_at,
+            settings_at: told.settings_at,
+        }
+    }
+
+    fn write_calls(
+        &self,
+        net: Network,
+        note: &[u8],
+        calls: &[u8],
+        settings: &[u8],
+        out: &mut [u8],
+    ) -> Verdict {
+        verdict(bolikwaru::write_calls(
+            network(net),
+            note,
+            calls,
+            settings,
+            out,
+        ))
+    }
+
+    fn write_planned(
+        &self,
+        net: Network,
+        note: &[u8],
+        calls: &[u8],
+        settings: &[u8],
+        out: &mut [u8],
+    ) -> Verdict {
+        verdict(bolikwaru::write_planned(
+            network(net),
+            note,
+            calls,
+            settings,
+            out,
+        ))
+    }
+}
+
+fn network(net: Network) -> bolikwaru::Network {
+    bolikwaru::Network {
+        n: net.n,
+        m: net.m,
+        r: net.r,
+    }
+}
+
+fn verdict(verdict: bolikwaru::Verdict) -> Verdict {
+    Verdict {
+        number: verdict.number,
+        row: verdict.row,
+    }
+}

@@ -1,0 +1,391 @@
+//! Inputs made to have named faults, so that the answer shows which refusal is tried first.
+//!
+//! A fault that is sought in rows is made by a few rows at modules of their own, so the faults of
+//! one input do not touch each other, and the order of these groups of rows is the order in which
+//! the faults stand in the table.
+
+use crate::inputs::{file_of, setting_of, Input};
+use crate::{
+    Network, CALL_BYTES, KIND_CALLS, KIND_PLANNED, LONGEST_NOTE, SETTING_BYTES, TRAILER_BYTES,
+};
+
+/// The entries, the reader once for each kind of file.
+#[derive(Clone, Copy, PartialEq, Eq, Debug)]
+pub enum Asked {
+    Plan,
+    Accept,
+    ReadCalls,
+    ReadPlanned,
+    WriteCalls,
+    WritePlanned,
+}
+
+impl Asked {
+    pub const ALL: [Asked; 6] = [
+        Asked::Plan,
+        Asked::Accept,
+        Asked::ReadCalls,
+        Asked::ReadPlanned,
+        Asked::WriteCalls,
+        Asked::WritePlanned,
+    ];
+
+    /// The refusals that the entry can give, in the document's order.
+    pub fn order(self) -> &'static [usize] {
+        match self {
+            Asked::Plan => &[1, 2, 3, 4, 5, 6, 7, 8],
+            Asked::Accept => &[1, 2, 3, 5, 6, 7, 9, 10, 11, 12, 13],
+            Asked::ReadCalls => &[14, 1, 3, 15, 5, 6, 7],
+            Asked::ReadPlanned => &[14, 1, 3, 15, 5, 6, 7, 9, 10, 11, 12, 13],
+            Asked::WriteCalls => &[1, 2, 3, 16, 4, 5, 6, 7],
+            Asked::WritePlanned => &[1, 2, 3, 16, 4, 5, 6, 7, 9, 10, 11, 12, 13],
+        }
+    }
+
+    /// In how many ways a fault is made for this entry.
+    pub fn ways(self, number: usize) -> usize {
+        match number {
+            // By a byte too many of the calls, or of the settings where settings are given.
+            2 if self != Asked::Plan => 2,
+            // By x, by y, by the central.
+            9 => 3,
+            // By either byte of the mark.
+            14 => 2,
+            // By the note, by the distance of the settings, by the distance of the calls.
+            15 => 3,
+            _ => 1,
+        }
+    }
+}
+
+/// A fault to be made, and the way to make it.
+#[derive(Clone, Copy, PartialEq, Eq, Debug)]
+pub struct Fault {
+    pub number: usize,
+    pub way: usize,
+}
+
+/// Whether a refusal tells a row.
+pub fn is_sought_in_rows(number: usize) -> bool {
+    (5..=13).contains(&number)
+}
+
+/// Whether a refusal is one of those that each row is tried for in turn.
+pub fn is_of_settings(number: usize) -> bool {
+    (9..=13).contains(&number)
+}
+
+/// An input that has the given faults; those sought in rows stand in the table in the order given.
+pub fn input_with(asked: Asked, faults: &[Fault]) -> Input {
+    let mut draft = Draft::new(asked, faults);
+    for fault in faults {
+        draft.add_rows_for(*fault);
+    }
+    draft.finish()
+}
+
+/// An input with all the given faults of 9 to 13 in one row.
+pub fn input_with_in_one_row(asked: Asked, numbers: &[usize]) -> Input {
+    let mut draft = Draft::new(asked, &[]);
+    draft.add_one_row_with(numbers);
+    draft.finish()
+}
+
+/// A table under construction, with the faults that are made when it is finished.
+struct Draft {
+    asked: Asked,
+    faults: Vec<Fault>,
+    net: Network,
+    calls: Vec<u8>,
+    settings: Vec<u8>,
+    inputs_used: u8,
+    outputs_used: u8,
+}
+
+impl Draft {
+    /// A draft with one sound row. Its sizes are outside their limits where 1 is wished; for 3 they
+    /// are large enough for 1,024 rows without fault.
+    fn new(asked: Asked, faults: &[Fault]) -> Draft {
+        let wished = |number: usize| faults.iter().any(|fault| fault.number == number);
+        let net = match (wished(1), wished(3)) {
+            (false, false) => Network { n: 3, m: 2, r: 8 },
+            (true, false) => Network { n: 17, m: 2, r: 8 },
+            (true, true) => Network {
+                n: 17,
+                m: 32,
+                r: 64,
+            },
+            (false, true) => Network {
+                n: 16,
+                m: if wished(8) { 15 } else { 32 },
+                r: 64,
+            },
+        };
+        let mut draft = Draft {
+            asked,
+            faults: faults.to_vec(),
+            net,
+            calls: Vec::new(),
+            settings: Vec::new(),
+            inputs_used: 0,
+            outputs_used: 0,
+        };
+        let sound = [draft.fresh_input(), 0, draft.fresh_output(), 0];
+        draft.add_row(sound, 0);
+        draft
+    }
+
+    fn wishes(&self, number: usize) -> bool {
+        self.faults.iter().any(|fault| fault.number == number)
+    }
+
+    fn wishes_way(&self, number: usize, way: usize) -> bool {
+        self.faults.contains(&Fault { number, way })
+    }
+
+    fn fresh_input(&mut self) -> u8 {
+        self.inputs_used += 1;
+        self.inputs_used - 1
+    }
+
+    fn fresh_output(&mut self) -> u8 {
+        self.outputs_used += 1;
+        self.outputs_used - 1
+    }
+
+    /// Adds a call with the settings row that it needs on a central.
+    fn add_row(&mut self, call: [u8; CALL_BYTES], central: usize) {
+        self.calls.extend(call);
+        self.settings.extend(setting_of(self.net, &call, central));
+    }
+
+    /// The settings row added last.
+    fn last_setting(&mut self) -> &mut [u8] {
+        let at = self.settings.len() - SETTING_BYTES;
+        &mut self.settings[at..]
+    }
+
+    /// Adds the rows of a fault that is sought in rows; nothing for another fault.
+    fn add_rows_for(&mut self, fault: Fault) {
+        match fault.number {
+            5 => self.add_number_outside(),
+            6 => self.add_repeated_inlet(),
+            7 => self.add_repeated_outlet(),
+            8 => self.add_full_module_and_one_more(),
+            9 => self.add_setting_outside(fault.way),
+            10..=13 => self.add_one_row_with(&[fault.number]),
+            _ => {}
+        }
+    }
+
+    fn add_number_outside(&mut self) {
+        let call = [self.fresh_input(), self.net.n as u8, self.fresh_output(), 0];
+        self.add_row(call, 0);
+    }
+
+    fn add_repeated_inlet(&mut self) {
+        let input = self.fresh_input();
+        for central in 0..2 {
+            let call = [input, 0, self.fresh_output(), 0];
+            self.add_row(call, central);
+        }
+    }
+
+    fn add_repeated_outlet(&mut self) {
+        let output = self.fresh_output();
+        for central in 0..2 {
+            let call = [self.fresh_input(), 0, output, 0];
+            self.add_row(call, central);
+        }
+    }
+
+    fn add_full_module_and_one_more(&mut self) {
+        let input = self.fresh_input();
+        for channel in 0..=self.net.m {
+            let call = [input, channel as u8, self.fresh_output(), 0];
+            self.add_row(call, channel);
+        }
+    }
+
+    /// A wavelength that is right but for a whole cycle, or a central that is the first there
+    /// isn't, with the wavelengths that it would need: 9 holds, 10 and 11 do not.
+    fn add_setting_outside(&mut self, way: usize) {
+        let call = [self.fresh_input(), 0, self.fresh_output(), 0];
+        let cycle = self.net.cycle() as u8;
+        if way == 2 {
+            self.add_row(call, self.net.m);
+        } else {
+            self.add_row(call, 0);
+            self.last_setting()[2 * way] += cycle;
+        }
+    }
+
+    /// One row with all the given faults of 9 to 13, after the sound rows that 12 and 13 need.
+    /// Every two of the five can hold of one row: 9 by a wavelength a cycle too high, which changes
+    /// no port; 10 by x, 11 by y; 12 and 13 by rows before it that share only the input module or
+    /// only the output module.
+    fn add_one_row_with(&mut self, numbers: &[usize]) {
+        let wished = |number: usize| numbers.contains(&number);
+        let cycle = self.net.cycle() as u8;
+        let call = [self.fresh_input(), 1, self.fresh_output(), 1];
+        if wished(12) {
+            let earlier = [call[0], 0, self.fresh_output(), 0];
+            self.add_row(earlier, 0);
+        }
+        if wished(13) {
+            let earlier = [self.fresh_input(), 0, call[2], 0];
+            self.add_row(earlier, 0);
+        }
+        self.add_row(call, 0);
+        let setting = self.last_setting();
+        if wished(10) {
+            setting[0] = (setting[0] + 1) % cycle;
+        }
+        if wished(11) {
+            setting[2] = (setting[2] + 1) % cycle;
+        }
+        if wished(9) {
+            setting[if wished(11) { 2 } else { 0 }] += cycle;
+        }
+    }
+
+    /// Fills the table up to 1,025 rows: with sound rows at free inlets and outlets, on centrals
+    /// that no other row uses, and where these run out with rows that have numbers outside. With
+    /// sizes inside their limits there are 1,024 inlets, so 1,025 rows always have 5, or else 6 and
+    /// 7.
+    fn fill_beyond_most(&mut self) {
+        let ends: Vec<[u8; CALL_BYTES]> = self
+            .calls
+            .chunks_exact(CALL_BYTES)
+            .map(|call| [call[0], call[1], call[2], call[3]])
+            .collect();
+        let most = CALL_BYTES * (Network::MOST_ROWS + 1);
+        for channel in 0..self.net.n {
+            for input in 0..self.net.r {
+                let output = (input + channel) % self.net.r;
+                let call = [input as u8, channel as u8, output as u8, channel as u8];
+                let is_free = ends
+                    .iter()
+                    .all(|other| other[..2] != call[..2] && other[2..] != call[2..]);
+                if is_free && self.calls.len() < most {
+                    self.add_row(call, 15 + channel);
+                }
+            }
+        }
+        let mut outside = self.net.r as u8;
+        while self.calls.len() < most {
+            self.add_row([outside, 0, outside, 0], 2);
+            outside += 1;
+        }
+    }
+
+    fn finish(mut self) -> Input {
+        if self.wishes(3) {
+            self.fill_beyond_most();
+        }
+        match self.asked {
+            Asked::Plan => self.finish_plan(),
+            Asked::Accept => self.finish_accept(),
+            Asked::ReadCalls => self.finish_read(KIND_CALLS),
+            Asked::ReadPlanned => self.finish_read(KIND_PLANNED),
+            Asked::WriteCalls => self.finish_write_calls(),
+            Asked::WritePlanned => self.finish_write_planned(),
+        }
+    }
+
+    fn finish_plan(mut self) -> Input {
+        let room = self.room(self.settings.len());
+        if self.wishes(2) {
+            self.calls.push(0);
+        }
+        Input::Plan {
+            net: self.net,
+            calls: self.calls,
+            settings: room,
+        }
+    }
+
+    fn finish_accept(mut self) -> Input {
+        self.spoil_lengths();
+        Input::Accept {
+            net: self.net,
+            calls: self.calls,
+            settings: self.settings,
+        }
+    }
+
+    fn finish_write_calls(mut self) -> Input {
+        let note = self.note();
+        let room = self.room(note.len() + self.calls.len() + TRAILER_BYTES);
+        self.settings.clear();
+        self.spoil_lengths();
+        Input::WriteCalls {
+            net: self.net,
+            note,
+            calls: self.calls,
+            settings: self.settings,
+            out: room,
+        }
+    }
+
+    fn finish_write_planned(mut self) -> Input {
+        let note = self.note();
+        let length = note.len() + self.calls.len() + self.settings.len() + TRAILER_BYTES;
+        let room = self.room(length);
+        self.spoil_lengths();
+        Input::WritePlanned {
+            net: self.net,
+            note,
+            calls: self.calls,
+            settings: self.settings,
+            out: room,
+        }
+    }
+
+    fn finish_read(self, kind: usize) -> Input {
+        let note = self.note();
+        let settings: &[u8] = if kind == KIND_PLANNED {
+            &self.settings
+        } else {
+            &[]
+        };
+        let mut file = file_of(kind, self.net, &note, &self.calls, settings);
+        let trailer_at = file.len() - TRAILER_BYTES;
+        let spoilt_places = [(15, 1, 7), (15, 2, 9), (14, 0, 10), (14, 1, 11)];
+        for (number, way, place) in spoilt_places {
+            if self.wishes_way(number, way) {
+                file[trailer_at + place] ^= 1;
+            }
+        }
+        Input::Read { file }
+    }
+
+    /// Adds a byte to the calls or to the settings where 2 is wished.
+    fn spoil_lengths(&mut self) {
+        if self.wishes_way(2, 0) {
+            self.calls.push(0);
+        }
+        if self.wishes_way(2, 1) {
+            self.settings.push(0);
+        }
+    }
+
+    /// A note of two bytes, or one byte too long where 16 is wished, or 15 by its note.
+    fn note(&self) -> Vec<u8> {
+        if self.wishes(16) || self.wishes_way(15, 0) {
+            filled(LONGEST_NOTE + 1)
+        } else {
+            filled(2)
+        }
+    }
+
+    /// A room as long as needed, or one byte less where 4 is wished.
+    fn room(&self, needed: usize) -> Vec<u8> {
+        filled(if self.wishes(4) { needed - 1 } else { needed })
+    }
+}
+
+/// So many bytes, each filled by its place, so that a byte that is written is seen.
+pub fn filled(length: usize) -> Vec<u8> {
+    (0..length).map(|place| (place * 37 + 163) as u8).collect()
+}

@@ -1,0 +1,603 @@
+//! The answers straight from the document's sentences: each refusal is sought row by row, by
+//! comparison with all earlier rows, and the planner follows the choice rule literally. Obviousness
+//! comes before speed.
+
+use crate::{
+    Entries, Network, Planned, Told, Verdict, CALL_BYTES, KIND_CALLS, KIND_PLANNED, LONGEST_NOTE,
+    MARK, SETTING_BYTES, TRAILER_BYTES,
+};
+
+/// The reference implementation.
+pub struct Plain;
+
+impl Entries for Plain {
+    fn plan(&self, net: Network, calls: &[u8], settings: &mut [u8]) -> Planned {
+        match try_plan(net, calls, settings.len()) {
+            Ok(plan) => {
+                let bytes = settings_bytes(&plan.settings);
+                settings[..bytes.len()].copy_from_slice(&bytes);
+                Planned {
+                    number: 0,
+                    row: plan.settings.len(),
+                    moved: plan.chains.iter().map(Vec::len).sum(),
+                }
+            }
+            Err(refusal) => Planned {
+                number: refusal.number,
+                row: refusal.row,
+                moved: 0,
+            },
+        }
+    }
+
+    fn accept(&self, net: Network, calls: &[u8], settings: &[u8]) -> Verdict {
+        verdict(try_accept(net, calls, settings))
+    }
+
+    fn read(&self, file: &[u8]) -> Told {
+        match try_read(file) {
+            Ok(told) => told,
+            Err(refusal) => Told {
+                number: refusal.number,
+                row: refusal.row,
+                n: 0,
+                m: 0,
+                r: 0,
+                kind: 0,
+                count: 0,
+                note_at: 0,
+                calls_at: 0,
+                settings_at: 0,
+            },
+        }
+    }
+
+    fn write_calls(
+        &self,
+        net: Network,
+        note: &[u8],
+        calls: &[u8],
+        settings: &[u8],
+        out: &mut [u8],
+    ) -> Verdict {
+        verdict(try_write(KIND_CALLS, net, note, calls, settings, out))
+    }
+
+    fn write_planned(
+        &self,
+        net: Network,
+        note: &[u8],
+        calls: &[u8],
+        settings: &[u8],
+        out: &mut [u8],
+    ) -> Verdict {
+        verdict(try_write(KIND_PLANNED, net, note, calls, settings, out))
+    }
+}
+
+/// A refusal: its number, and the row it tells.
+#[derive(Clone, Copy)]
+struct Refusal {
+    number: usize,
+    row: usize,
+}
+
+/// A call row. Its inlet is (input_module, input_channel), its outlet (output_module,
+/// output_channel).
+struct Call {
+    input_module: usize,
+    input_channel: usize,
+    output_module: usize,
+    output_channel: usize,
+}
+
+/// A settings row.
+struct Setting {
+    x: usize,
+    central: usize,
+    y: usize,
+}
+
+/// What the planner finds: the settings, and for each call that needed one the chain, as the rows
+/// changed, in their order.
+struct Plan {
+    settings: Vec<Setting>,
+    chains: Vec<Vec<usize>>,
+}
+
+/// The number of calls on each chain of a plan, in the order of the chains; none where the planner
+/// refuses the calls.
+pub fn chain_lengths(net: Network, calls: &[u8]) -> Vec<usize> {
+    match try_plan(net, calls, usize::MAX) {
+        Ok(plan) => plan.chains.iter().map(Vec::len).collect(),
+        Err(_) => Vec::new(),
+    }
+}
+
+// The entries, each with its refusals in the document's order.
+
+fn try_plan(net: Network, calls: &[u8], room: usize) -> Result<Plan, Refusal> {
+    check_sizes(net)?;
+    check_calls_length(calls)?;
+    let rows = calls_of(calls);
+    check_count(rows.len())?;
+    check_room(room, SETTING_BYTES * rows.len())?;
+    check_calls(net, &rows)?;
+    check_modules(net, &rows)?;
+    Ok(place_all(net, &rows))
+}
+
+fn try_accept(net: Network, calls: &[u8], settings: &[u8]) -> Result<usize, Refusal> {
+    check_sizes(net)?;
+    check_calls_length(calls)?;
+    let rows = calls_of(calls);
+    check_settings_length(settings, SETTING_BYTES * rows.len())?;
+    check_count(rows.len())?;
+    check_calls(net, &rows)?;
+    check_settings(net, &rows, &settings_of(settings))?;
+    Ok(rows.len())
+}
+
+fn try_write(
+    kind: usize,
+    net: Network,
+    note: &[u8],
+    calls: &[u8],
+    settings: &[u8],
+    out: &mut [u8],
+) -> Result<usize, Refusal> {
+    check_sizes(net)?;
+    check_calls_length(calls)?;
+    let rows = calls_of(calls);
+    check_settings_length(settings, settings_distance(kind, rows.len()))?;
+    check_count(rows.len())?;
+    if note.len() > LONGEST_NOTE {
+        return refuse(16, 0);
+    }
+    let file = file_bytes(kind, net, note, calls, settings);
+    check_room(out.len(), file.len())?;
+    check_calls(net, &rows)?;
+    if kind == KIND_PLANNED {
+        check_settings(net, &rows, &settings_of(settings))?;
+    }
+    out[..file.len()].copy_from_slice(&file);
+    Ok(rows.len())
+}
+
+fn try_read(file: &[u8]) -> Result<Told, Refusal> {
+    let trailer = take_trailer(file)?;
+    check_sizes(trailer.net)?;
+    check_count(trailer.count)?;
+    let trailer_at = file.len() - TRAILER_BYTES;
+    check_distances(&trailer, trailer_at)?;
+    let calls_at = trailer_at - trailer.calls_distance;
+    let settings_at = trailer_at - trailer.settings_distance;
+    let rows = calls_of(&file[calls_at..settings_at]);
+    check_calls(trailer.net, &rows)?;
+    if trailer.kind == KIND_PLANNED {
+        let settings = settings_of(&file[settings_at..trailer_at]);
+        check_settings(trailer.net, &rows, &settings)?;
+    }
+    Ok(Told {
+        number: 0,
+        row: trailer.count,
+        n: trailer.net.n,
+        m: trailer.net.m,
+        r: trailer.net.r,
+        kind: trailer.kind,
+        count: trailer.count,
+        note_at: 0,
+        calls_at,
+        settings_at,
+    })
+}
+
+// Answers.
+
+fn refuse<T>(number: usize, row: usize) -> Result<T, Refusal> {
+    Err(Refusal { number, row })
+}
+
+/// Refuses at the first row that is at fault, where one of `count` rows is.
+fn refuse_first(
+    number: usize,
+    count: usize,
+    at_fault: impl Fn(usize) -> bool,
+) -> Result<(), Refusal> {
+    match (0..count).find(|&row| at_fault(row)) {
+        Some(row) => refuse(number, row),
+        None => Ok(()),
+    }
+}
+
+fn verdict(answer: Result<usize, Refusal>) -> Verdict {
+    match answer {
+        Ok(count) => Verdict {
+            number: 0,
+            row: count,
+        },
+        Err(refusal) => Verdict {
+            number: refusal.number,
+            row: refusal.row,
+        },
+    }
+}
+
+// Rows from bytes, and bytes from rows.
+
+fn calls_of(bytes: &[u8]) -> Vec<Call> {
+    bytes
+        .chunks_exact(CALL_BYTES)
+        .map(|row| Call {
+            input_module: usize::from(row[0]),
+            input_channel: usize::from(row[1]),
+            output_module: usize::from(row[2]),
+            output_channel: usize::from(row[3]),
+        })
+        .collect()
+}
+
+fn settings_of(bytes: &[u8]) -> Vec<Setting> {
+    bytes
+        .chunks_exact(SETTING_BYTES)
+        .map(|row| Setting {
+            x: usize::from(row[0]),
+            central: usize::from(row[1]),
+            y: usize::from(row[2]),
+        })
+        .collect()
+}
+
+fn settings_bytes(settings: &[Setting]) -> Vec<u8> {
+    let mut bytes = Vec::new();
+    for setting in settings {
+        bytes.push(setting.x as u8);
+        bytes.push(setting.central as u8);
+        bytes.push(setting.y as u8);
+    }
+    bytes
+}
+
+// The refusals that are not sought in rows.
+
+fn check_sizes(net: Network) -> Result<(), Refusal> {
+    let within = 1 <= net.n
+        && net.n <= Network::MOST_CHANNELS
+        && 1 <= net.m
+        && net.m <= Network::MOST_CENTRALS
+        && 1 <= net.r
+        && net.r <= Network::MOST_MODULES;
+    if within {
+        Ok(())
+    } else {
+        refuse(1, 0)
+    }
+}
+
+fn check_calls_length(calls: &[u8]) -> Result<(), Refusal> {
+    if calls.len() % CALL_BYTES == 0 {
+        Ok(())
+    } else {
+        refuse(2, 0)
+    }
+}
+
+fn check_settings_length(settings: &[u8], owed: usize) -> Result<(), Refusal> {
+    if settings.len() == owed {
+        Ok(())
+    } else {
+        refuse(2, 0)
+    }
+}
+
+fn check_count(count: usize) -> Result<(), Refusal> {
+    if count <= Network::MOST_ROWS {
+        Ok(())
+    } else {
+        refuse(3, 0)
+    }
+}
+
+fn check_room(room: usize, needed: usize) -> Result<(), Refusal> {
+    if room >= needed {
+        Ok(())
+    } else {
+        refuse(4, 0)
+    }
+}
+
+// The refusals of call rows, each sought over the whole table before the next.
+
+fn check_calls(net: Network, calls: &[Call]) -> Result<(), Refusal> {
+    check_numbers(net, calls)?;
+    check_inlets(calls)?;
+    check_outlets(calls)
+}
+
+fn check_numbers(net: Network, calls: &[Call]) -> Result<(), Refusal> {
+    refuse_first(5, calls.len(), |row| {
+        let call = &calls[row];
+        call.input_module >= net.r
+            || call.output_module >= net.r
+            || call.input_channel >= net.n
+            || call.output_channel >= net.n
+    })
+}
+
+fn check_inlets(calls: &[Call]) -> Result<(), Refusal> {
+    refuse_first(6, calls.len(), |row| {
+        let call = &calls[row];
+        calls[..row].iter().any(|earlier| {
+            earlier.input_module == call.input_module && earlier.input_channel == call.input_channel
+        })
+    })
+}
+
+fn check_outlets(calls: &[Call]) -> Result<(), Refusal> {
+    refuse_first(7, calls.len(), |row| {
+        let call = &calls[row];
+        calls[..row].iter().any(|earlier| {
+            earlier.output_module == call.output_module
+                && earlier.output_channel == call.output_channel
+        })
+    })
+}
+
+/// Refuses at the first row with which its input module or its output module has more calls than
+/// there are centrals.
+fn check_modules(net: Network, calls: &[Call]) -> Result<(), Refusal> {
+    refuse_first(8, calls.len(), |row| {
+        let so_far = &calls[..row + 1];
+        let at_input = so_far
+            .iter()
+            .filter(|call| call.input_module == calls[row].input_module)
+            .count();
+        let at_output = so_far
+            .iter()
+            .filter(|call| call.output_module == calls[row].output_module)
+            .count();
+        at_input > net.m || at_output > net.m
+    })
+}
+
+// The refusals of settings rows: rows from 0 on, each tried for 9 to 13 in turn.
+
+fn check_settings(net: Network, calls: &[Call], settings: &[Setting]) -> Result<(), Refusal> {
+    for row in 0..settings.len() {
+        let number = setting_refusal(net, calls, settings, row);
+        if number != 0 {
+            return refuse(number, row);
+        }
+    }
+    Ok(())
+}
+
+/// The first of 9 to 13 that holds of the row, or 0.
+fn setting_refusal(net: Network, calls: &[Call], settings: &[Setting], row: usize) -> usize {
+    let cycle = net.cycle();
+    let call = &calls[row];
+    let setting = &settings[row];
+    if setting.x >= cycle || setting.y >= cycle || setting.central >= net.m {
+        return 9;
+    }
+    if port(setting.x, call.input_module, cycle) != setting.central {
+        return 10;
+    }
+    if port(setting.y, setting.central, cycle) != call.output_module {
+        return 11;
+    }
+    let same_input = |earlier: usize| calls[earlier].input_module == call.input_module;
+    let same_output = |earlier: usize| calls[earlier].output_module == call.output_module;
+    let same_central = |earlier: usize| settings[earlier].central == setting.central;
+    if (0..row).any(|earlier| same_input(earlier) && same_central(earlier)) {
+        return 12;
+    }
+    if (0..row).any(|earlier| same_central(earlier) && same_output(earlier)) {
+        return 13;
+    }
+    0
+}
+
+// The grating rule.
+
+/// The port at which a wavelength that entered a grating at `entered` leaves it: their difference,
+/// by the remainder that is never negative. All three numbers are below the cycle or one byte, so
+/// none is cut.
+fn port(wavelength: usize, entered: usize, cycle: usize) -> usize {
+    (wavelength as i64 - entered as i64).rem_euclid(cycle as i64) as usize
+}
+
+/// The wavelength that leaves a grating at `port` when it entered at `entered`.
+fn wavelength(entered: usize, port: usize, cycle: usize) -> usize {
+    (entered + port) % cycle
+}
+
+// The choice rule.
+
+/// Places the calls in row order. No module has more calls than there are centrals.
+fn place_all(net: Network, calls: &[Call]) -> Plan {
+    let mut centrals = Vec::new();
+    let mut chains = Vec::new();
+    for call in calls {
+        let at_input = centrals_at_input(calls, &centrals, call.input_module);
+        let at_output = centrals_at_output(calls, &centrals, call.output_module);
+        let common =
+            (0..net.m).find(|central| !at_input.contains(central) && !at_output.contains(central));
+        let chosen = match common {
+            Some(central) => central,
+            None => {
+                let a = lowest_free(net, &at_input);
+                let b = lowest_free(net, &at_output);
+                let chain = chain_from(calls, &centrals, call.output_module, a, b);
+                exchange(&mut centrals, &chain, a, b);
+                chains.push(chain);
+                a
+            }
+        };
+        centrals.push(chosen);
+    }
+    Plan {
+        settings: settings_for(net, calls, &centrals),
+        chains,
+    }
+}
+
+/// The centrals of the calls placed so far at an input module.
+fn centrals_at_input(calls: &[Call], centrals: &[usize], module: usize) -> Vec<usize> {
+    (0..centrals.len())
+        .filter(|&row| calls[row].input_module == module)
+        .map(|row| centrals[row])
+        .collect()
+}
+
+/// The centrals of the calls placed so far at an output module.
+fn centrals_at_output(calls: &[Call], centrals: &[usize], module: usize) -> Vec<usize> {
+    (0..centrals.len())
+        .filter(|&row| calls[row].output_module == module)
+        .map(|row| centrals[row])
+        .collect()
+}
+
+/// The lowest central that isn't taken. There is one, since a module that still awaits a call has
+/// fewer than m.
+fn lowest_free(net: Network, taken: &[usize]) -> usize {
+    (0..net.m)
+        .find(|central| !taken.contains(central))
+        .expect("a module that awaits a call has a free central")
+}
+
+/// The chain from an output module, as rows: the call there on a, at its input module the call on
+/// b, at its output module the call on a, until none continues it.
+fn chain_from(calls: &[Call], centrals: &[usize], start: usize, a: usize, b: usize) -> Vec<usize> {
+    let mut chain = Vec::new();
+    let mut output_module = start;
+    while let Some(row) = row_at_output(calls, centrals, output_module, a) {
+        chain.push(row);
+        match row_at_input(calls, centrals, calls[row].input_module, b) {
+            Some(back) => {
+                chain.push(back);
+                output_module = calls[back].output_module;
+            }
+            None => return chain,
+        }
+    }
+    chain
+}
+
+fn row_at_input(
+    calls: &[Call],
+    centrals: &[usize],
+    module: usize,
+    central: usize,
+) -> Option<usize> {
+    (0..centrals.len()).find(|&row| calls[row].input_module == module && centrals[row] == central)
+}
+
+fn row_at_output(
+    calls: &[Call],
+    centrals: &[usize],
+    module: usize,
+    central: usize,
+) -> Option<usize> {
+    (0..centrals.len()).find(|&row| calls[row].output_module == module && centrals[row] == central)
+}
+
+/// Every call on the chain changes between a and b.
+fn exchange(centrals: &mut [usize], chain: &[usize], a: usize, b: usize) {
+    for &row in chain {
+        centrals[row] = if centrals[row] == a { b } else { a };
+    }
+}
+
+fn settings_for(net: Network, calls: &[Call], centrals: &[usize]) -> Vec<Setting> {
+    let cycle = net.cycle();
+    calls
+        .iter()
+        .zip(centrals)
+        .map(|(call, &central)| Setting {
+            x: wavelength(call.input_module, central, cycle),
+            central,
+            y: wavelength(central, call.output_module, cycle),
+        })
+        .collect()
+}
+
+// The plan file.
+
+/// A trailer taken apart, with a mark and a kind that are right.
+struct Trailer {
+    net: Network,
+    kind: usize,
+    count: usize,
+    settings_distance: usize,
+    calls_distance: usize,
+}
+
+/// How far the first settings row stands before the trailer.
+fn settings_distance(kind: usize, count: usize) -> usize {
+    if kind == KIND_PLANNED {
+        SETTING_BYTES * count
+    } else {
+        0
+    }
+}
+
+/// How far the first call row stands before the trailer.
+fn calls_distance(kind: usize, count: usize) -> usize {
+    CALL_BYTES * count + settings_distance(kind, count)
+}
+
+fn two_bytes(number: usize) -> [u8; 2] {
+    [(number / 256) as u8, (number % 256) as u8]
+}
+
+/// The bytes of a file. Sizes, K and lengths have been checked.
+fn file_bytes(kind: usize, net: Network, note: &[u8], calls: &[u8], settings: &[u8]) -> Vec<u8> {
+    let count = calls.len() / CALL_BYTES;
+    let mut file = Vec::new();
+    file.extend(note);
+    file.extend(calls);
+    file.extend(settings);
+    file.extend([net.n as u8, net.m as u8, net.r as u8, kind as u8]);
+    file.extend(two_bytes(count));
+    file.extend(two_bytes(settings_distance(kind, count)));
+    file.extend(two_bytes(calls_distance(kind, count)));
+    file.extend(MARK);
+    file
+}
+
+fn take_trailer(file: &[u8]) -> Result<Trailer, Refusal> {
+    if file.len() < TRAILER_BYTES {
+        return refuse(14, 0);
+    }
+    let bytes = &file[file.len() - TRAILER_BYTES..];
+    let number_at = |at: usize| 256 * usize::from(bytes[at]) + usize::from(bytes[at + 1]);
+    let kind = usize::from(bytes[3]);
+    if bytes[10..] != MARK || (kind != KIND_CALLS && kind != KIND_PLANNED) {
+        return refuse(14, 0);
+    }
+    Ok(Trailer {
+        net: Network {
+            n: usize::from(bytes[0]),
+            m: usize::from(bytes[1]),
+            r: usize::from(bytes[2]),
+        },
+        kind,
+        count: number_at(4),
+        settings_distance: number_at(6),
+        calls_distance: number_at(8),
+    })
+}
+
+/// Refuses distances that are not as stated, or more than the file holds before its trailer, or
+/// that leave a note too long.
+fn check_distances(trailer: &Trailer, trailer_at: usize) -> Result<(), Refusal> {
+    let as_stated = trailer.settings_distance == settings_distance(trailer.kind, trailer.count)
+        && trailer.calls_distance == calls_distance(trailer.kind, trailer.count);
+    let held = trailer.calls_distance <= trailer_at;
+    if as_stated && held && trailer_at - trailer.calls_distance <= LONGEST_NOTE {
+        Ok(())
+    } else {
+        refuse(15, 0)
+    }
+}

@@ -1,0 +1,535 @@
+//! The same answers, written for speed by the usual method: a record of use with one byte for each
+//! module of each side and each central, a chain that finds its next row by reading the rows placed
+//! so far from row 0 up, and marks for inlets, outlets and pairs. Everything stands on the stack.
+
+use crate::{
+    Entries, Network, Planned, Told, Verdict, CALL_BYTES, KIND_CALLS, KIND_PLANNED, LONGEST_NOTE,
+    MARK, SETTING_BYTES, TRAILER_BYTES,
+};
+
+/// The swift implementation.
+pub struct Swift;
+
+impl Entries for Swift {
+    fn plan(&self, net: Network, calls: &[u8], settings: &mut [u8]) -> Planned {
+        match check_plan(net, calls, settings.len()) {
+            Ok(count) => Planned {
+                number: 0,
+                row: count,
+                moved: place_all(net, calls, &mut settings[..SETTING_BYTES * count]),
+            },
+            Err(refusal) => Planned {
+                number: refusal.number,
+                row: refusal.row,
+                moved: 0,
+            },
+        }
+    }
+
+    fn accept(&self, net: Network, calls: &[u8], settings: &[u8]) -> Verdict {
+        into_verdict(check_accept(net, calls, settings))
+    }
+
+    fn read(&self, file: &[u8]) -> Told {
+        match check_read(file) {
+            Ok(told) => told,
+            Err(refusal) => Told {
+                number: refusal.number,
+                row: refusal.row,
+                n: 0,
+                m: 0,
+                r: 0,
+                kind: 0,
+                count: 0,
+                note_at: 0,
+                calls_at: 0,
+                settings_at: 0,
+            },
+        }
+    }
+
+    fn write_calls(
+        &self,
+        net: Network,
+        note: &[u8],
+        calls: &[u8],
+        settings: &[u8],
+        out: &mut [u8],
+    ) -> Verdict {
+        into_verdict(write(KIND_CALLS, net, note, calls, settings, out))
+    }
+
+    fn write_planned(
+        &self,
+        net: Network,
+        note: &[u8],
+        calls: &[u8],
+        settings: &[u8],
+        out: &mut [u8],
+    ) -> Verdict {
+        into_verdict(write(KIND_PLANNED, net, note, calls, settings, out))
+    }
+}
+
+/// A refusal: its number, and the row it tells.
+#[derive(Clone, Copy)]
+struct Refusal {
+    number: usize,
+    row: usize,
+}
+
+fn refuse<T>(number: usize, row: usize) -> Result<T, Refusal> {
+    Err(Refusal { number, row })
+}
+
+fn into_verdict(answer: Result<usize, Refusal>) -> Verdict {
+    match answer {
+        Ok(count) => Verdict {
+            number: 0,
+            row: count,
+        },
+        Err(refusal) => Verdict {
+            number: refusal.number,
+            row: refusal.row,
+        },
+    }
+}
+
+// The entries.
+
+/// All refusals of the planner; without one, the number of calls.
+fn check_plan(net: Network, calls: &[u8], room: usize) -> Result<usize, Refusal> {
+    check_sizes(net)?;
+    let count = count_of(calls)?;
+    check_count(count)?;
+    if room < SETTING_BYTES * count {
+        return refuse(4, 0);
+    }
+    check_calls(net, calls)?;
+    check_modules(net, calls)?;
+    Ok(count)
+}
+
+fn check_accept(net: Network, calls: &[u8], settings: &[u8]) -> Result<usize, Refusal> {
+    check_sizes(net)?;
+    let count = count_of(calls)?;
+    if settings.len() != SETTING_BYTES * count {
+        return refuse(2, 0);
+    }
+    check_count(count)?;
+    check_calls(net, calls)?;
+    check_settings(net, calls, settings)?;
+    Ok(count)
+}
+
+fn check_read(file: &[u8]) -> Result<Told, Refusal> {
+    if file.len() < TRAILER_BYTES {
+        return refuse(14, 0);
+    }
+    let trailer_at = file.len() - TRAILER_BYTES;
+    let (body, trailer) = file.split_at(trailer_at);
+    let kind = usize::from(trailer[3]);
+    if trailer[10..] != MARK || (kind != KIND_CALLS && kind != KIND_PLANNED) {
+        return refuse(14, 0);
+    }
+    let net = Network {
+        n: usize::from(trailer[0]),
+        m: usize::from(trailer[1]),
+        r: usize::from(trailer[2]),
+    };
+    check_sizes(net)?;
+    let count = two_byte_number(trailer[4], trailer[5]);
+    check_count(count)?;
+    let settings_bytes = settings_bytes_of(kind, count);
+    let row_bytes = CALL_BYTES * count + settings_bytes;
+    let as_stated = two_byte_number(trailer[6], trailer[7]) == settings_bytes
+        && two_byte_number(trailer[8], trailer[9]) == row_bytes;
+    if !as_stated || row_bytes > trailer_at || trailer_at - row_bytes > LONGEST_NOTE {
+        return refuse(15, 0);
+    }
+    let calls_at = trailer_at - row_bytes;
+    let settings_at = trailer_at - settings_bytes;
+    let calls = &body[calls_at..settings_at];
+    check_calls(net, calls)?;
+    if kind == KIND_PLANNED {
+        check_settings(net, calls, &body[settings_at..])?;
+    }
+    Ok(Told {
+        number: 0,
+        row: count,
+        n: net.n,
+        m: net.m,
+        r: net.r,
+        kind,
+        count,
+        note_at: 0,
+        calls_at,
+        settings_at,
+    })
+}
+
+fn write(
+    kind: usize,
+    net: Network,
+    note: &[u8],
+    calls: &[u8],
+    settings: &[u8],
+    out: &mut [u8],
+) -> Result<usize, Refusal> {
+    check_sizes(net)?;
+    let count = count_of(calls)?;
+    if settings.len() != settings_bytes_of(kind, count) {
+        return refuse(2, 0);
+    }
+    check_count(count)?;
+    if note.len() > LONGEST_NOTE {
+        return refuse(16, 0);
+    }
+    let row_bytes = calls.len() + settings.len();
+    if out.len() < note.len() + row_bytes + TRAILER_BYTES {
+        return refuse(4, 0);
+    }
+    check_calls(net, calls)?;
+    if kind == KIND_PLANNED {
+        check_settings(net, calls, settings)?;
+    }
+    let rest = append(append(append(out, note), calls), settings);
+    let [count_high, count_low] = two_bytes(count);
+    let [settings_high, settings_low] = two_bytes(settings.len());
+    let [calls_high, calls_low] = two_bytes(row_bytes);
+    let trailer = [
+        net.n as u8,
+        net.m as u8,
+        net.r as u8,
+        kind as u8,
+        count_high,
+        count_low,
+        settings_high,
+        settings_low,
+        calls_high,
+        calls_low,
+        MARK[0],
+        MARK[1],
+    ];
+    append(rest, &trailer);
+    Ok(count)
+}
+
+/// Copies bytes to the start of the room, and gives the room after them. The room has been checked.
+fn append<'a>(room: &'a mut [u8], bytes: &[u8]) -> &'a mut [u8] {
+    let (start, rest) = room.split_at_mut(bytes.len());
+    start.copy_from_slice(bytes);
+    rest
+}
+
+fn two_bytes(number: usize) -> [u8; 2] {
+    [(number >> 8) as u8, number as u8]
+}
+
+fn two_byte_number(high: u8, low: u8) -> usize {
+    usize::from(high) << 8 | usize::from(low)
+}
+
+fn settings_bytes_of(kind: usize, count: usize) -> usize {
+    if kind == KIND_PLANNED {
+        SETTING_BYTES * count
+    } else {
+        0
+    }
+}
+
+// Sizes and lengths.
+
+fn check_sizes(net: Network) -> Result<(), Refusal> {
+    let within = (1..=Network::MOST_CHANNELS).contains(&net.n)
+        && (1..=Network::MOST_CENTRALS).contains(&net.m)
+        && (1..=Network::MOST_MODULES).contains(&net.r);
+    if within {
+        Ok(())
+    } else {
+        refuse(1, 0)
+    }
+}
+
+fn count_of(calls: &[u8]) -> Result<usize, Refusal> {
+    if calls.len() % CALL_BYTES == 0 {
+        Ok(calls.len() / CALL_BYTES)
+    } else {
+        refuse(2, 0)
+    }
+}
+
+fn check_count(count: usize) -> Result<(), Refusal> {
+    if count <= Network::MOST_ROWS {
+        Ok(())
+    } else {
+        refuse(3, 0)
+    }
+}
+
+// The call table.
+
+/// The number of inlets, and of outlets, of the largest network.
+const ENDS: usize = Network::MOST_MODULES * Network::MOST_CHANNELS;
+
+/// Refusals 5, 6 and 7 in one pass: the first number outside ends it, since 5 is sought over the
+/// whole table before the others; the first repeated inlet and the first repeated outlet are kept
+/// until the table is known to be without 5.
+fn check_calls(net: Network, calls: &[u8]) -> Result<(), Refusal> {
+    let mut inlets = [false; ENDS];
+    let mut outlets = [false; ENDS];
+    let mut repeated_inlet = None;
+    let mut repeated_outlet = None;
+    for (row, call) in calls.chunks_exact(CALL_BYTES).enumerate() {
+        let input_module = usize::from(call[0]);
+        let input_channel = usize::from(call[1]);
+        let output_module = usize::from(call[2]);
+        let output_channel = usize::from(call[3]);
+        if input_module >= net.r
+            || output_module >= net.r
+            || input_channel >= net.n
+            || output_channel >= net.n
+        {
+            return refuse(5, row);
+        }
+        let inlet = &mut inlets[Network::MOST_CHANNELS * input_module + input_channel];
+        if *inlet && repeated_inlet.is_none() {
+            repeated_inlet = Some(row);
+        }
+        *inlet = true;
+        let outlet = &mut outlets[Network::MOST_CHANNELS * output_module + output_channel];
+        if *outlet && repeated_outlet.is_none() {
+            repeated_outlet = Some(row);
+        }
+        *outlet = true;
+    }
+    if let Some(row) = repeated_inlet {
+        return refuse(6, row);
+    }
+    if let Some(row) = repeated_outlet {
+        return refuse(7, row);
+    }
+    Ok(())
+}
+
+/// Refusal 8, by a tally for each module. The calls have passed 5, 6 and 7, so a tally is 16 at
+/// most.
+fn check_modules(net: Network, calls: &[u8]) -> Result<(), Refusal> {
+    if net.n <= net.m {
+        return Ok(());
+    }
+    let mut at_inputs = [0u8; Network::MOST_MODULES];
+    let mut at_outputs = [0u8; Network::MOST_MODULES];
+    let most = net.m as u8;
+    for (row, call) in calls.chunks_exact(CALL_BYTES).enumerate() {
+        let at_input = &mut at_inputs[usize::from(call[0])];
+        let at_output = &mut at_outputs[usize::from(call[2])];
+        *at_input += 1;
+        *at_output += 1;
+        if *at_input > most || *at_output > most {
+            return refuse(8, row);
+        }
+    }
+    Ok(())
+}
+
+// Given settings.
+
+/// The number of pairs of a module and a central of the largest network.
+const PAIRS: usize = Network::MOST_MODULES * Network::MOST_CENTRALS;
+
+fn pair_of(module: usize, central: usize) -> usize {
+    Network::MOST_CENTRALS * module + central
+}
+
+/// Refusals 9 to 13, each row tried for them in turn. The calls have passed 5.
+fn check_settings(net: Network, calls: &[u8], settings: &[u8]) -> Result<(), Refusal> {
+    let cycle = net.cycle();
+    let mut at_inputs = [false; PAIRS];
+    let mut at_outputs = [false; PAIRS];
+    let rows = calls
+        .chunks_exact(CALL_BYTES)
+        .zip(settings.chunks_exact(SETTING_BYTES));
+    for (row, (call, setting)) in rows.enumerate() {
+        let input_module = usize::from(call[0]);
+        let output_module = usize::from(call[2]);
+        let x = usize::from(setting[0]);
+        let central = usize::from(setting[1]);
+        let y = usize::from(setting[2]);
+        if x >= cycle || y >= cycle || central >= net.m {
+            return refuse(9, row);
+        }
+        if difference(x, input_module, cycle) != central {
+            return refuse(10, row);
+        }
+        if difference(y, central, cycle) != output_module {
+            return refuse(11, row);
+        }
+        let at_input = &mut at_inputs[pair_of(input_module, central)];
+        if *at_input {
+            return refuse(12, row);
+        }
+        *at_input = true;
+        let at_output = &mut at_outputs[pair_of(output_module, central)];
+        if *at_output {
+            return refuse(13, row);
+        }
+        *at_output = true;
+    }
+    Ok(())
+}
+
+/// The remainder of a difference of two numbers below the cycle.
+fn difference(minuend: usize, subtrahend: usize, cycle: usize) -> usize {
+    if minuend >= subtrahend {
+        minuend - subtrahend
+    } else {
+        minuend + cycle - subtrahend
+    }
+}
+
+/// The remainder of a sum of two numbers below the cycle.
+fn sum(left: usize, right: usize, cycle: usize) -> usize {
+    let whole = left + right;
+    if whole >= cycle {
+        whole - cycle
+    } else {
+        whole
+    }
+}
+
+// The choice rule.
+
+/// For a module, whether each central is in use there: 1 where it is.
+type Use = [u8; Network::MOST_CENTRALS];
+
+/// The record of use: 4 KiB.
+struct Record {
+    inputs: [Use; Network::MOST_MODULES],
+    outputs: [Use; Network::MOST_MODULES],
+}
+
+/// The place of the input module in a call row.
+const INPUT: usize = 0;
+/// The place of the output module in a call row.
+const OUTPUT: usize = 2;
+/// The place of the central in a settings row.
+const CENTRAL: usize = 1;
+
+/// Places the calls, which have passed all refusals, in row order, and answers the moved count.
+/// `settings` has 3 bytes for each call. While calls are placed only the centrals are written
+/// there; the wavelengths follow when all stand fast.
+fn place_all(net: Network, calls: &[u8], settings: &mut [u8]) -> usize {
+    let mut record = Record {
+        inputs: [[0; Network::MOST_CENTRALS]; Network::MOST_MODULES],
+        outputs: [[0; Network::MOST_CENTRALS]; Network::MOST_MODULES],
+    };
+    let mut moved = 0;
+    for (row, call) in calls.chunks_exact(CALL_BYTES).enumerate() {
+        let input_module = usize::from(call[INPUT]);
+        let output_module = usize::from(call[OUTPUT]);
+        let at_input = &record.inputs[input_module];
+        let at_output = &record.outputs[output_module];
+        let central = match lowest_common(at_input, at_output, net.m) {
+            Some(central) => central,
+            None => {
+                let a = lowest_free(at_input, net.m);
+                let b = lowest_free(at_output, net.m);
+                let placed = &mut settings[..SETTING_BYTES * row];
+                moved += exchange_chain(&mut record, calls, placed, output_module, a, b);
+                a
+            }
+        };
+        settings[SETTING_BYTES * row + CENTRAL] = central as u8;
+        record.inputs[input_module][central] = 1;
+        record.outputs[output_module][central] = 1;
+    }
+    fill_wavelengths(net.cycle(), calls, settings);
+    moved
+}
+
+/// The lowest central that is free at both modules.
+fn lowest_common(at_input: &Use, at_output: &Use, centrals: usize) -> Option<usize> {
+    at_input
+        .iter()
+        .zip(at_output)
+        .take(centrals)
+        .position(|(input, output)| input | output == 0)
+}
+
+/// The lowest central that is free at a module. There is one, since a module that still awaits a
+/// call has fewer than m; without one the answer would be m less 1.
+fn lowest_free(at_module: &Use, centrals: usize) -> usize {
+    at_module
+        .iter()
+        .take(centrals)
+        .position(|&used| used == 0)
+        .unwrap_or(centrals - 1)
+}
+
+/// Changes every call of the chain that starts at an output module between a and b, sets the record
+/// right at both of its ends, and answers the number of calls changed. At the modules between its
+/// ends both centrals stay in use.
+fn exchange_chain(
+    record: &mut Record,
+    calls: &[u8],
+    placed: &mut [u8],
+    start: usize,
+    a: usize,
+    b: usize,
+) -> usize {
+    let mut moved = 0;
+    let mut output_module = start;
+    let mut row = row_at::<OUTPUT>(calls, placed, output_module, a);
+    record.outputs[start][a] = 0;
+    record.outputs[start][b] = 1;
+    loop {
+        // The row is on a and at the output module; the next is sought before this one changes to
+        // b.
+        let input_module = usize::from(calls[CALL_BYTES * row + INPUT]);
+        moved += 1;
+        if record.inputs[input_module][b] == 0 {
+            placed[SETTING_BYTES * row + CENTRAL] = b as u8;
+            record.inputs[input_module][a] = 0;
+            record.inputs[input_module][b] = 1;
+            return moved;
+        }
+        let back = row_at::<INPUT>(calls, placed, input_module, b);
+        placed[SETTING_BYTES * row + CENTRAL] = b as u8;
+        // The row `back` is on b and at the input module.
+        output_module = usize::from(calls[CALL_BYTES * back + OUTPUT]);
+        moved += 1;
+        if record.outputs[output_module][a] == 0 {
+            placed[SETTING_BYTES * back + CENTRAL] = a as u8;
+            record.outputs[output_module][b] = 0;
+            record.outputs[output_module][a] = 1;
+            return moved;
+        }
+        row = row_at::<OUTPUT>(calls, placed, output_module, a);
+        placed[SETTING_BYTES * back + CENTRAL] = a as u8;
+    }
+}
+
+/// The placed row with a central at a module of one side, by reading the rows from row 0 up. The
+/// record says that there is one; without one the answer would be row 0.
+fn row_at<const SIDE: usize>(calls: &[u8], placed: &[u8], module: usize, central: usize) -> usize {
+    let module = module as u8;
+    let central = central as u8;
+    calls
+        .chunks_exact(CALL_BYTES)
+        .zip(placed.chunks_exact(SETTING_BYTES))
+        .position(|(call, setting)| call[SIDE] == module && setting[CENTRAL] == central)
+        .unwrap_or(0)
+}
+
+/// Writes the two wavelengths that each call needs on its central.
+fn fill_wavelengths(cycle: usize, calls: &[u8], settings: &mut [u8]) {
+    let rows = calls
+        .chunks_exact(CALL_BYTES)
+        .zip(settings.chunks_exact_mut(SETTING_BYTES));
+    for (call, setting) in rows {
+        let central = usize::from(setting[CENTRAL]);
+        setting[0] = sum(usize::from(call[INPUT]), central, cycle) as u8;
+        setting[2] = sum(central, usize::from(call[OUTPUT]), cycle) as u8;
+    }
+}

@@ -1,0 +1,63 @@
+// The five entries for programs in C and Rust. Each has its entry's own contract, on its entry's own records, so what is proved
+// of an entry holds of its export, and so does every law over its guarantee. Nothing is asked of the input.
+ghost use Rattle.acceptance.specs.Acceptance.{Accepts};
+ghost use Rattle.planner.specs.Planner.{Plans};
+ghost use Rattle.planfile.specs.File.{callsOnly, planned};
+ghost use Rattle.planfile.specs.Reader.{Reads};
+ghost use Rattle.planfile.specs.Writer.{Writes};
+use calls::Verdict;
+use planfile::Told;
+use planner::Planned;
+use shelf::Network;
+
+// Settings for the calls, at the front of `settings`.
+#[no_mangle]
+pub extern "C" fn bolikwaru_plan(net: Network, calls: &[u8], settings: &mut [u8]) -> Planned
+    ensures { λ a. ⌜ Plans net (now (calls .entry)) (now (settings .entry)) (now (settings .exit)) a ⌝ }
+{
+    planner::plan(net, calls, settings)
+}
+
+// Whether the settings are lawful for the calls.
+#[no_mangle]
+pub extern "C" fn bolikwaru_accept(net: Network, calls: &[u8], settings: &[u8]) -> Verdict
+    ensures { λ v. ⌜ Accepts net (now (calls .entry)) (now (settings .entry)) v ⌝ }
+{
+    acceptance::accept(net, calls, settings)
+}
+
+// What a plan file tells.
+#[no_mangle]
+pub extern "C" fn bolikwaru_read(file: &[u8]) -> Told
+    ensures { λ told. ⌜ Reads (now (file .entry)) told ⌝ }
+{
+    planfile::read(file)
+}
+
+// A calls-only file, at the front of `out`.
+#[no_mangle]
+pub extern "C" fn bolikwaru_write_calls(
+    net: Network,
+    note: &[u8],
+    calls: &[u8],
+    settings: &[u8],
+    out: &mut [u8],
+) -> Verdict
+    ensures { λ v. ⌜ Writes callsOnly net (now (note .entry)) (now (calls .entry)) (now (settings .entry)) (now (out .entry)) (now (out .exit)) v ⌝ }
+{
+    planfile::write_calls(net, note, calls, settings, out)
+}
+
+// A planned file, at the front of `out`.
+#[no_mangle]
+pub extern "C" fn bolikwaru_write_planned(
+    net: Network,
+    note: &[u8],
+    calls: &[u8],
+    settings: &[u8],
+    out: &mut [u8],
+) -> Verdict
+    ensures { λ v. ⌜ Writes planned net (now (note .entry)) (now (calls .entry)) (now (settings .entry)) (now (out .entry)) (now (out .exit)) v ⌝ }
+{
+    planfile::write_planned(net, note, calls, settings, out)
+}

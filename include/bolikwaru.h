@@ -1,0 +1,118 @@
+/* Bolikwaru for C: plans settings for a wavelength cross-connect shelf, judges settings, reads and writes plan files.
+   Link target/staticlib/libexported.a (x86-64 Linux). Every answer is proved for all numbers and all bytes; the promises
+   stand in crates/exported/src/lib.rt, and this header is kept by hand beside them.
+
+   A buffer is handed over as a pointer and a length in bytes; where the length is 0 any pointer will do, also null. A buffer
+   that is written must overlap no other. Nothing else is asked of the input. Nothing is kept between calls or allocated.
+
+   A call row has 4 bytes: input module, inlet, output module, outlet. A settings row has 3: wavelength to the central
+   module, central module, wavelength from it. Settings row i belongs to call row i. K is the number of calls.
+
+   number  when                                                                            row
+        0  success                                                                         K
+        1  n, m or r outside its limits                                                    0
+        2  calls not a multiple of 4 bytes, or settings not as long as they must be        0
+        3  more than 1,024 calls                                                           0
+        4  output buffer too short                                                         0
+        5  a module or channel that the shelf does not have                                first such
+        6  inlet used by an earlier row                                                    first such
+        7  outlet used by an earlier row                                                   first such
+        8  with this row a module has more calls than there are centrals                   first such
+        9  a wavelength or central that the shelf does not have                            that row
+       10  the light does not reach the central it names                                   that row
+       11  the light does not reach its output module                                      that row
+       12  an earlier row has the same input module and central                            that row
+       13  an earlier row has the same central and output module                           that row
+       14  no trailer: under 12 bytes, wrong mark, or kind not 1 or 2                      0
+       15  distances not as stated, more than the file holds, or a note above 255 bytes    0
+       16  note to be written above 255 bytes                                              0
+
+   Every number but 0 is a refusal, and a refusal changes no byte of any buffer. */
+#ifndef BOLIKWARU_H
+#define BOLIKWARU_H
+
+#include <stddef.h>
+#include <stdint.h>
+
+#ifdef __cplusplus
+extern "C" {
+#endif
+
+/* The limits. n, m and r are at least 1; there may be no calls, and the note may be empty. */
+#define BOLIKWARU_MOST_CHANNELS 16
+#define BOLIKWARU_MOST_CENTRALS 32
+#define BOLIKWARU_MOST_MODULES 64
+#define BOLIKWARU_MOST_CALLS 1024
+#define BOLIKWARU_MOST_NOTE 255
+
+/* The bytes of the most settings, and of the longest file. */
+#define BOLIKWARU_MOST_SETTINGS 3072
+#define BOLIKWARU_LONGEST_FILE 7435
+
+/* The kinds of file. */
+#define BOLIKWARU_CALLS_ONLY 1
+#define BOLIKWARU_PLANNED 2
+
+/* A network: n channels of each module, m central modules, r input modules and as many output modules. */
+typedef struct {
+    size_t n, m, r;
+} bolikwaru_network;
+
+/* A number and a row of the table above. */
+typedef struct {
+    size_t number, row;
+} bolikwaru_verdict;
+
+/* A number and a row, and how many calls were moved to make room for others: 0 if refused. */
+typedef struct {
+    size_t number, row, moved;
+} bolikwaru_planned;
+
+/* A number and a row, and what the file tells: the network, the kind, K as count, and where note, calls and settings begin,
+   in bytes from the file's start. In a calls-only file settings begin at the trailer. If refused, all but number and row
+   are 0. */
+typedef struct {
+    size_t number, row;
+    size_t n, m, r;
+    size_t kind, count;
+    size_t note_at, calls_at, settings_at;
+} bolikwaru_told;
+
+/* Plans. Success writes 3 K bytes at the front of `settings` and keeps the bytes beyond. Refusals are tried in the order
+   1, 2, 3, 4, 5, 6, 7, 8. Where the number is 8, no settings at all would be accepted. */
+bolikwaru_planned bolikwaru_plan(bolikwaru_network net,
+                                 const uint8_t *calls, size_t calls_length,
+                                 uint8_t *settings, size_t settings_length);
+
+/* Judges settings from any planner, 3 bytes for each call: for calls in order the number is 0 exactly when the settings are
+   lawful. Refusals are tried in the order 1, 2, 3, 5, 6, 7, then row by row 9 to 13. No buffer is written. */
+bolikwaru_verdict bolikwaru_accept(bolikwaru_network net,
+                                   const uint8_t *calls, size_t calls_length,
+                                   const uint8_t *settings, size_t settings_length);
+
+/* Reads a plan file. Refusals are tried in the order 14, 1, 3, 15, 5, 6, 7, then for a planned file row by row 9 to 13. No
+   buffer is written. */
+bolikwaru_told bolikwaru_read(const uint8_t *file, size_t file_length);
+
+/* Writes a calls-only file. Settings have no bytes. Success writes note, calls and 12 bytes of trailer at the front of `out`
+   and keeps the bytes beyond. Refusals are tried in the order 1, 2, 3, 16, 4, 5, 6, 7. */
+bolikwaru_verdict bolikwaru_write_calls(bolikwaru_network net,
+                                        const uint8_t *note, size_t note_length,
+                                        const uint8_t *calls, size_t calls_length,
+                                        const uint8_t *settings, size_t settings_length,
+                                        uint8_t *out, size_t out_length);
+
+/* Writes a planned file. Settings have 3 bytes for each call. Success writes note, calls, settings and 12 bytes of trailer at
+   the front of `out` and keeps the bytes beyond. Refusals are tried in the order 1, 2, 3, 16, 4, 5, 6, 7, then row by row 9
+   to 13. */
+bolikwaru_verdict bolikwaru_write_planned(bolikwaru_network net,
+                                          const uint8_t *note, size_t note_length,
+                                          const uint8_t *calls, size_t calls_length,
+                                          const uint8_t *settings, size_t settings_length,
+                                          uint8_t *out, size_t out_length);
+
+#ifdef __cplusplus
+}
+#endif
+
+#endif
