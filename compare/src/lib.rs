@@ -12,6 +12,7 @@ pub mod pairs;
 pub mod plain;
 pub mod stored;
 pub mod swift;
+pub mod tables;
 
 /// The three sizes: n channels of each module, m centrals, r input modules and as many output
 /// modules.
