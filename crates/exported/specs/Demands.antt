@@ -1,0 +1,52 @@
+-- Planner and acceptance together: the planner's guarantee, told by what acceptance answers. Whatever satisfies the two guarantees
+-- satisfies these laws; nothing here speaks of code.
+--   planned-exactly     == the planner answers 0 exactly for tables in order, with room, and with no module overfull
+--   planned-accepted    == settings that the planner wrote are accepted
+--   overfull-refused    == where a module is overfull the planner answers 8, and acceptance says yes to no settings whatever
+use mathlib.Core.Path.{_≡_, ap, sym, _∙_}
+use native.Mathlib.Omega.{arith}
+use mathlib.Core.Logic.{_↔_}
+use mathlib.Core.Bool.{Bool}
+use mathlib.Core.List.{List}
+use Prim.Native.Nat.{ℕ, _*_, _≤_, _<_}
+use lib.ListN.{length, take}
+use Rattle.shelf.specs.declared.Network.{Network}
+use Rattle.shelf.specs.Rows.{rowCount, moduleOf}
+use Rattle.calls.specs.declared.Verdict.{Verdict}
+use Rattle.calls.specs.Table.{InOrder}
+use Rattle.calls.specs.TableLaws.{in-order-is}
+use Rattle.acceptance.specs.Acceptance.{Accepts}
+use Rattle.choice.specs.Count.{atModule}
+use Rattle.choice.specs.Order.{order}
+use Rattle.planner.specs.declared.Planned.{Planned}
+use Rattle.planner.specs.Planner.{plannerVerdict, planAnswer, NoneOverfull, Plans}
+use Rattle.planner.specs.Owed.{room-passes, verdict-passes}
+use Rattle.planner.specs.Overfull.{none-overfull-passes}
+
+module _ {net : Network} {calls before after : List ℕ} {a : Planned} (plans : Plans net calls before after a) where
+  pub planned-exactly : (a .number ≡ 0) ↔ (InOrder net calls × (3 * rowCount calls ≤ length before) × NoneOverfull net calls)
+  unfolding planAnswer
+  planned-exactly =
+      let number : a .number ≡ plannerVerdict net calls (length before) .number = ap (λ (b : Planned). b .number) (plans .answer) in
+      let in-order = in-order-is net calls 0 0 in (
+        λ zero.
+            let h = verdict-passes net calls (length before) .0 (sym number ∙ zero) in
+            (in-order .0 (h .0, h .2) .0, room-passes calls (length before) .0 (h .1), none-overfull-passes net calls .0 (h .3)),
+        λ h.
+            let passed = in-order .1 (h .0, omega arith) in
+            number ∙ verdict-passes net calls (length before) .1 (passed .0, room-passes calls (length before) .1 (h .1), passed .1, none-overfull-passes net calls .1 (h .2)),
+      )
+
+  -- "The planner yields accepted settings whenever no module has more calls than there are centrals"
+  pub planned-accepted : a .number ≡ 0 → (v : Verdict) → Accepts net calls (take (3 * rowCount calls) after) v → v .number ≡ 0
+  planned-accepted zero v accepts =
+      let h = planned-exactly .0 zero in
+      accepts .exactly (h .0) .1 (plans .owed (h .0) (h .1) (h .2) .1)
+
+  -- "when one has more it refuses, and then no settings exist that would be accepted"
+  pub overfull-refused : InOrder net calls → 3 * rowCount calls ≤ length before → (output : Bool) (v : ℕ)
+      → length (order net) < length (atModule (moduleOf calls output) (rowCount calls) v)
+      → (a .number ≡ 8) × ((settings : List ℕ) (w : Verdict) → Accepts net calls settings w → w .number ≡ 0 → ⊥)
+  overfull-refused in-order room output v over =
+      let h = plans .impossible in-order room output v over in
+      (h .0, λ settings w accepts zero. h .1 settings (accepts .exactly in-order .0 zero))

@@ -1,0 +1,2 @@
+-- What the entries promise together.
+pub mod Demands
