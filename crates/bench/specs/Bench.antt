@@ -3,12 +3,11 @@
 --   Answer          == number, row and moved count, and the settings that then stand
 --   written c       == the answer that the bench table has
 --   ruled c         == the answer of the planner's rules, or of acceptance's
-use mathlib.Core.Path.{_≡_}
-use mathlib.Core.Bool.{Bool, true, false, cond}
-use mathlib.Core.List.{List, [], _∷_, map}
-use Prim.Native.Nat.{ℕ, _*_, _≤_}
+use mathlib.Core.Bool.{cond}
+use mathlib.Core.List.{List, []}
+use Prim.Native.Nat.{ℕ, _*_}
 use lib.Dec.{eqb}
-use lib.ListN.{length, take, replicate}
+use lib.ListN.{take, replicate}
 use Rattle.calls.specs.declared.Verdict.{Verdict}
 use Rattle.acceptance.specs.Acceptance.{acceptance}
 use Rattle.planner.specs.declared.Planned.{Planned}
@@ -36,8 +35,9 @@ answered number row moved settings = record { number = number; row = row; moved 
 unfoldable pub written : Case → Answer
 written c = answered (c .number) (c .row) (c .moved) (settingsOf c)
 
+-- the planner is lent room filled with 255, which no settings hold
 unfoldable pub byPlanner : Case → Planned → Answer
-byPlanner c a = answered (a .number) (a .row) (a .moved) (take (3 * c .count) (planBuffer (c .net) (callsOf c) (replicate (c .room) 0)))
+byPlanner c a = answered (a .number) (a .row) (a .moved) (take (3 * c .count) (planBuffer (c .net) (callsOf c) (replicate (c .room) 255)))
 
 unfoldable pub byAcceptance : Case → Verdict → Answer
 byAcceptance c v = answered (v .number) (v .row) 0 (settingsOf c)

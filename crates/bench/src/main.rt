@@ -297,7 +297,7 @@ fn is_answered(part: Case) -> bool {
     }
     let calls = part.calls;
     let settings = part.settings;
-    let mut room = [0u8; MOST_ROOM];
+    let mut room = [255u8; MOST_ROOM];
     let entry = part.entry;
     match entry {
         Entry::Plan => is_planned(

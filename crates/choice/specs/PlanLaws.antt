@@ -45,7 +45,7 @@ module _ (α β : ℕ → ℕ) (order centrals : List ℕ) where
           plan-from-moved k (omega arith) (λ i li. fits i (omega arith)) r (λ i li. below i (omega arith)),
         )
 
--- The plan of K rows: a central for each row; a fine colouring, where no row overfills a module; and few calls moved.
+-- The plan of K rows: a central for each row; and a fine colouring, where no row overfills a module.
 module _ (α β : ℕ → ℕ) (order : List ℕ) (K : ℕ) where
   pub plan-length : length (plan α β order K .centrals) ≡ K
   unfolding plan
@@ -55,10 +55,6 @@ module _ (α β : ℕ → ℕ) (order : List ℕ) (K : ℕ) where
     pub plan-fine : Fine α β order (at (plan α β order K .centrals)) K
     unfolding plan
     plan-fine = plan-from-fine α β order (replicate K 0) d K (omega (arith, length-replicate {A = ℕ} K 0)) fits
-
-    pub plan-moved : (r : ℕ) → ModulesBelow α β r K → plan α β order K .moved ≤ K * (2 * r - 2)
-    unfolding plan
-    plan-moved r below = plan-from-moved α β order (replicate K 0) d K (omega (arith, length-replicate {A = ℕ} K 0)) fits r below
 
 -- a side with a proper colouring in centrals of the order overfills no module
 pub fits-side : (f γ : ℕ → ℕ) (order : List ℕ) (K : ℕ) → Proper f γ K → ((i : ℕ) → i < K → In (γ i) order) → (i : ℕ) → i < K → Fits f order i

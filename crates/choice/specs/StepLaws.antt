@@ -19,7 +19,7 @@ use Rattle.shelf.specs.Every.{both-is, below-suc}
 use Rattle.choice.specs.Lists.{In, Distinct}
 use Rattle.choice.specs.Rule.{at, firstOf, isFree, chain, exchange, exchanged, Step, byChain, step}
 use Rattle.choice.specs.Search.{first-some, first-none, Picked, got, nothing, picked, Free, free-iff}
-use Rattle.choice.specs.Chain.{Proper, Two, nearModules, farModules, Setting, Runs, stop, chain-is, rows-of, first-row, closed-near, closed-far, runs-distinct, runs-length, search-runs, used-far, distinct-near, distinct-far}
+use Rattle.choice.specs.Chain.{Proper, Two, nearModules, farModules, Setting, Runs, stop, chain-is, rows-of, first-row, closed-near, closed-far, runs-distinct, search-runs, used-far, distinct-near, distinct-far}
 use Rattle.choice.specs.Exchange.{exchange-first, exchange-second, Change, changed, kept, length-exchanged, exchanged-at, exchange-proper, place-proper}
 use Rattle.choice.specs.Count.{atModule, some-free, few}
 
@@ -57,10 +57,6 @@ module _ (α β γ : ℕ → ℕ) (k a b : ℕ) (s : ChainStart α β γ k a b) 
   -- it has no row twice, so that its length is the number of calls that change
   pub chain-distinct : Distinct (stepChain α β γ k a b)
   chain-distinct = runs-distinct γ k setting chain-runs
-
-  -- so it has at most as many rows as calls are placed
-  pub chain-length : length (stepChain α β γ k a b) ≤ k
-  chain-length = runs-length γ k setting chain-runs
 
   -- it is made of calls placed so far, on a or b
   pub chain-rows : (i : ℕ) → In i (stepChain α β γ k a b) → (i < k) × Two a b (γ i)

@@ -21,7 +21,7 @@ use Rattle.choice.specs.Rule.{at, rowOn, isFree, chain, exchange, exchan
 use Rattle.choice.specs.Search.{Free, Standing, row, free, standing, free-iff}
 use Rattle.choice.specs.Chain.{Two, Runs, stop, next, used-far, used-near}
 use Rattle.choice.specs.Exchange.{exchange-first, exchange-second, exchange-other, one-of, exchange-twice, Change, changed, kept, length-exchanged, change-together}
-use Rattle.choice.specs.StepLaws.{ModulesBelow, ChainStart, stepChain, afterChain, chain-runs, chain-rows, chain-avoids, chain-start, chain-closed-α, chain-closed-β, chain-bound, placed-same, placed-new, chain-change}
+use Rattle.choice.specs.StepLaws.{ModulesBelow, ChainStart, stepChain, afterChain, chain-runs, chain-rows, chain-start, chain-closed-α, chain-closed-β, chain-bound, placed-same, placed-new, chain-change}
 
 unfoldable pub chainEnd : ℕ → (h f γ : ℕ → ℕ) (k v c d : ℕ) → ℕ
 chainEnd zero h f γ k v c d = v
@@ -101,9 +101,6 @@ end-below (suc n) h f γ k v c d r below l =
 module _ (α β γ : ℕ → ℕ) (k a b : ℕ) (s : ChainStart α β γ k a b) (r : ℕ) (below : ModulesBelow α β r (suc k)) (n : ℕ) (long : 2 * r - 2 ≤ n) where
   pub end-bound : chainEnd n β α γ k (β k) a b ≡ stepEnd α β γ k a b
   end-bound = rw (end-of-chain, end-of-chain k, chain-bound α β γ k a b s r below n long)
-
-  pub across-bound : endsAcross n β α γ k (β k) a b ≡ stepAcross α β γ k a b
-  across-bound = rw (across-chain, across-chain k, chain-bound α β γ k a b s r below n long)
 
 module _ (γ : ℕ → ℕ) (k : ℕ) where
   -- at a module at which the chain does not end, it goes on: c is in use there
@@ -286,12 +283,6 @@ module _ (α β : ℕ → ℕ) (centrals : List ℕ) (k a b : ℕ) (room : k < l
   -- no chain ends at a module of the new call: b is free at its output module, and no chain reaches its input module
   away-β : odd es ≡ false → end ≡ β k → ⊥
   away-β o z = let w = end-β o in s .free-b (w .0) (chain-rows α β γ k a b s (w .0) (w .1) .0) (w .3 ∙ z) (w .2)
-
-  pub end-avoids-β : stepAcross α β (at centrals) k a b ≡ false → stepEnd α β (at centrals) k a b ≡ β k → ⊥
-  end-avoids-β = rw (across-chain, end-of-chain) away-β
-
-  pub end-avoids-α : stepAcross α β (at centrals) k a b ≡ true → stepEnd α β (at centrals) k a b ≡ α k → ⊥
-  end-avoids-α = rw (across-chain, end-of-chain) (λ o z. let w = last-far γ k runs o in chain-avoids α β γ k a b s (w .0) (w .1) (w .3 ∙ z))
 
   -- at the output module of the new call
   not-end : (not (odd es) && eqb (β k) end) ≡ false

@@ -1,7 +1,6 @@
+-- The bench table: what the rules say of each part is what is written, computed by the checker.
 use Rattle.bench.proofs.bench_table.Statement.{statement}
 use Rattle.bench.proofs.bench_table.Tie as tie
-use Rattle.bench.proofs.bench_table.Reads as reads
-use Rattle.bench.proofs.bench_table.Lts as lts
 use mathlib.Core.Path.{refl}
 use Rattle.grating.specs.Grating.{exitPort, wavelengthBetween, remainder}
 use Rattle.shelf.specs.Network.{mostChannels, mostCentrals, mostModules, mostCalls, within, withinLimits, cycle, ownWavelength, ownCentral}
@@ -17,7 +16,6 @@ use Rattle.choice.specs.Order.{upFrom, order}
 use Rattle.planner.specs.Planner.{settingsRows, overfull, overfullRow, roomRefused, plannerVerdict, chosen, planAnswer, planBuffer}
 use Rattle.bench.specs.Bench.{callsOf, settingsOf, answered, written, byPlanner, byAcceptance, ruledBy, ruled}
 
--- src/main.rt:49:1
 returns : tie.Need-returns
 unfolding exitPort wavelengthBetween remainder mostChannels mostCentrals mostModules mostCalls within withinLimits cycle ownWavelength ownCentral rowCount α ω β ω' x γ y someBelow rowAt owned success passed refusedIf _⨾_ seekRows badSizes badLengths tooManyCalls outside usedEarlier outsideRow inletTwice outletTwice sizeChecks callChecks lightVerdict rowVerdict unlawfulRow acceptance firstBelow firstOf isNone chain exchange exchanged byChain step planFrom plan rowsBelow upFrom order settingsRows overfull overfullRow roomRefused plannerVerdict chosen planAnswer planBuffer callsOf settingsOf answered written byPlanner byAcceptance ruledBy ruled
 returns c = refl

@@ -1,20 +1,16 @@
+-- `bench::front` stays within its slice.
 use borrow.Author.Needs.{needs}
 use Rattle.bench.proofs.front.Statement.{statement}
 use Rattle.bench.proofs.front.Tie as tie
-use Rattle.bench.proofs.front.Reads as reads
-use Rattle.bench.proofs.front.Lts as lts
 use mathlib.Core.Path.{sym}
 use lib.Seq.{length-take-le}
 
--- src/main.rt:320:9
 returns : tie.Need-returns
 returns c = search needs
 
--- src/main.rt:322:5
 slice-aggregate-result : tie.Need-slice-aggregate-result
 slice-aggregate-result c = sym (length-take-le _ _ (search needs))
 
--- src/main.rt:318:1
 returns-2 : tie.Need-returns-2
 returns-2 c = search needs
 

@@ -1,10 +1,7 @@
+-- The program shows every part: `i` counts those shown.
 use borrow.Author.Needs.{needs}
 use Rattle.bench.proofs.main.Statement.{statement}
 use Rattle.bench.proofs.main.Tie as tie
-use Rattle.bench.proofs.main.Reads as reads
-use Rattle.bench.proofs.main.Lts as lts
-use Rattle.bench.proofs.bench_table.Reads as bench-table-reads
-use Rattle.bench.proofs.show.Reads as show-reads
 use Prim.Native.Nat.{_≤_, _-_}
 
 abbrev Inv-loop : tie.InvT-loop
@@ -13,39 +10,30 @@ Inv-loop parts i₀ i = i ≤ 19
 abbrev μ-loop : tie.MeasureT-loop
 μ-loop parts i₀ i = 19 - i
 
--- src/main.rt:38:17
 bench-table-requires : tie.Need-bench-table-requires Inv-loop μ-loop
 bench-table-requires c κs = search needs
 
--- src/main.rt:40:5
 loop-holds : tie.Need-loop-holds Inv-loop μ-loop
 loop-holds c = search needs
 
--- src/main.rt:41:14
 mul-show : tie.Need-mul-show Inv-loop μ-loop
 mul-show c = search needs
 
--- src/main.rt:41:14
 array-copy-out-show : tie.Need-array-copy-out-show Inv-loop μ-loop
 array-copy-out-show c = search needs
 
--- src/main.rt:41:9
 show-requires : tie.Need-show-requires Inv-loop μ-loop
 show-requires c κs = search needs
 
--- src/main.rt:42:9
 add-i : tie.Need-add-i Inv-loop μ-loop
 add-i c = search needs
 
--- src/main.rt:40:5
 loop-less : tie.Need-loop-less Inv-loop μ-loop
 loop-less c = search needs
 
--- src/main.rt:40:5
 loop-again : tie.Need-loop-again Inv-loop μ-loop
 loop-again c = search needs
 
--- src/main.rt:37:1
 returns : tie.Need-returns Inv-loop μ-loop
 returns c = search needs
 

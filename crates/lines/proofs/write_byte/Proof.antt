@@ -3,8 +3,6 @@ use borrow.Author.Needs.{needs}
 use Rattle.lines.specs.Writing.{adds-byte}
 use Rattle.lines.proofs.write_byte.Statement.{statement}
 use Rattle.lines.proofs.write_byte.Tie as tie
-use Rattle.lines.proofs.write_byte.Reads as reads
-use Rattle.lines.proofs.write_byte.Lts as lts
 
 slice-write-out : tie.Need-slice-write-out
 slice-write-out c = search needs

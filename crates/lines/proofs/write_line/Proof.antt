@@ -4,11 +4,6 @@ use Rattle.lines.specs.Text.{newline}
 use Rattle.lines.specs.Writing.{adds-both}
 use Rattle.lines.proofs.write_line.Statement.{statement}
 use Rattle.lines.proofs.write_line.Tie as tie
-use Rattle.lines.proofs.write_line.Reads as reads
-use Rattle.lines.proofs.write_line.Lts as lts
-use Rattle.lines.proofs.write_byte.Reads as write-byte-reads
-use Rattle.lines.proofs.write_number.Reads as write-number-reads
-use Rattle.lines.proofs.write_numbers.Reads as write-numbers-reads
 
 write-numbers-requires : tie.Need-write-numbers-requires
 write-numbers-requires c κs = search needs
