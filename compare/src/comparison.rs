@@ -64,7 +64,7 @@ pub struct Seen {
 #[derive(Clone, Debug)]
 pub struct Difference {
     pub what: String,
-    pub input: Input,
+    pub input: Box<Input>,
 }
 
 /// How often each entry gave each number.
@@ -268,7 +268,7 @@ pub fn compare_all(
     let differ = |what: String| {
         Err(Difference {
             what,
-            input: input.clone(),
+            input: Box::new(input.clone()),
         })
     };
     if let Some(sentence) = at_left.broken {
