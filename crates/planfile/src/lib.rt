@@ -103,7 +103,7 @@ pub fn take_trailer(file: &[u8]) -> Trailer
     let Sized::Made(net) = network_in(trailer) else {
         return Trailer::Refused(Verdict { number: 1, row: 0 });
     };
-    let kind = wide(trailer[KIND_AT]);
+    let kind = shelf::byte_at(trailer, KIND_AT);
     let count = number_at(trailer, COUNT_AT);
     if Network::MOST_CALLS < count {
         return Trailer::Refused(Verdict { number: 3, row: 0 });
@@ -134,7 +134,7 @@ fn is_trailer(trailer: &[u8]) -> bool
     if trailer[MARK_AT + 1] != SECOND_MARK {
         return false;
     }
-    let kind = wide(trailer[KIND_AT]);
+    let kind = shelf::byte_at(trailer, KIND_AT);
     if kind == CALLS_ONLY {
         return true;
     }
@@ -146,22 +146,19 @@ fn network_in(trailer: &[u8]) -> Sized
     requires { ⌜ trailerLength ≤ length (now trailer) ⌝ }
     ensures { λ s. ⌜ s ≡ sized (toldNet (now (trailer .entry))) ⌝ }
 {
-    Network::new(wide(trailer[0]), wide(trailer[1]), wide(trailer[2]))
+    Network::new(
+        shelf::byte_at(trailer, 0),
+        shelf::byte_at(trailer, 1),
+        shelf::byte_at(trailer, 2),
+    )
 }
 
 // The two-byte number that stands at a place, its high byte first.
-fn number_at(bytes: &[u8], at: usize) -> usize
+pub fn number_at(bytes: &[u8], at: usize) -> usize
     requires { ⌜ at + 2 ≤ length (now bytes) ⌝ }
-    ensures { λ number. ⌜ number ≡ numberAt (now (bytes .entry)) at ⌝ }
+    ensures { λ number. ⌜ (number ≡ numberAt (now (bytes .entry)) at) × (number < 65536) ⌝ }
 {
-    wide(bytes[at]) * 256 + wide(bytes[at + 1])
-}
-
-// A byte as a number.
-fn wide(byte: u8) -> usize
-    ensures { λ value. ⌜ (value ≡ byte) × (value < 256) ⌝ }
-{
-    byte as usize
+    shelf::byte_at(bytes, at) * 256 + shelf::byte_at(bytes, at + 1)
 }
 
 // Whether the distances are as stated for the kind and K, no more than stands before the trailer, and leave a note that is

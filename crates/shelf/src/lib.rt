@@ -2,7 +2,7 @@
 // How light travels through a shelf, and which settings are lawful, are definitions in specs/Light.antt.
 ghost use mathlib.Core.Path.{_≡_};
 ghost use Prim.Native.Nat.{_+_, _*_, _≤_, _<_};
-ghost use lib.ListN.{length};
+ghost use lib.ListN.{length, getD};
 ghost use Rattle.shelf.specs.Network.{Limits, within, withinLimits, Built, cycle};
 ghost use Rattle.shelf.specs.Rows.{CallRead, SettingsRead};
 
@@ -92,10 +92,10 @@ impl CallRow {
     {
         let start = 4 * row;
         CallRow {
-            input_module: wide(calls[start]),
-            input_channel: wide(calls[start + 1]),
-            output_module: wide(calls[start + 2]),
-            output_channel: wide(calls[start + 3]),
+            input_module: byte_at(calls, start),
+            input_channel: byte_at(calls, start + 1),
+            output_module: byte_at(calls, start + 2),
+            output_channel: byte_at(calls, start + 3),
         }
     }
 }
@@ -115,14 +115,22 @@ impl SettingsRow {
     {
         let start = 3 * row;
         SettingsRow {
-            to_central: wide(settings[start]),
-            central: wide(settings[start + 1]),
-            from_central: wide(settings[start + 2]),
+            to_central: byte_at(settings, start),
+            central: byte_at(settings, start + 1),
+            from_central: byte_at(settings, start + 2),
         }
     }
 }
 
-// A byte as an index.
+// The byte that stands at a place, as a number.
+pub fn byte_at(bytes: &[u8], at: usize) -> usize
+    requires { ⌜ at < length (now bytes) ⌝ }
+    ensures { λ value. ⌜ (value ≡ getD (now (bytes .entry)) at 0) × (value < 256) ⌝ }
+{
+    wide(bytes[at])
+}
+
+// A byte as a number.
 fn wide(byte: u8) -> usize
     ensures { λ value. ⌜ (value ≡ byte) × (value < 256) ⌝ }
 {

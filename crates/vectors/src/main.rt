@@ -2,8 +2,6 @@
 // implementation. An input has a head of twelve bytes: the entry, n, m and r, then the lengths of note, calls, settings and
 // room, each high byte first. The bytes of these four follow. A file to be read stands in the place of the calls. For each
 // input a line is printed: the numbers that the entry answers, then each byte of the room as the entry left it.
-ghost use Prim.Native.Nat.{_+_, _≤_, _<_};
-ghost use lib.ListN.{length};
 use calls::Verdict;
 use libc::STDIN_FILENO;
 use libc::STDOUT_FILENO;
@@ -40,10 +38,10 @@ fn answer_next(parts: &mut [u8], room: &mut [u8]) -> bool {
     if !fill(&mut head) {
         return false;
     }
-    let note_end = length_at(&head, 4);
-    let calls_end = note_end + length_at(&head, 6);
-    let settings_end = calls_end + length_at(&head, 8);
-    let room_end = length_at(&head, 10);
+    let note_end = planfile::number_at(&head, 4);
+    let calls_end = note_end + planfile::number_at(&head, 6);
+    let settings_end = calls_end + planfile::number_at(&head, 8);
+    let room_end = planfile::number_at(&head, 10);
     if parts.len() < settings_end {
         return false;
     }
@@ -58,9 +56,9 @@ fn answer_next(parts: &mut [u8], room: &mut [u8]) -> bool {
         return false;
     }
     let net = Network {
-        n: wide(head[1]),
-        m: wide(head[2]),
-        r: wide(head[3]),
+        n: shelf::byte_at(&head, 1),
+        m: shelf::byte_at(&head, 2),
+        r: shelf::byte_at(&head, 3),
     };
     let whole = &parts[..];
     answer(
@@ -77,21 +75,6 @@ fn answer_next(parts: &mut [u8], room: &mut [u8]) -> bool {
 // Whether the standard input filled all of the buffer.
 fn fill(buffer: &mut [u8]) -> bool {
     io::read_full(STDIN_FILENO, buffer) == buffer.len()
-}
-
-// The length that stands at a place of a head.
-fn length_at(head: &[u8], at: usize) -> usize
-    requires { ⌜ at + 2 ≤ length (now head) ⌝ }
-    ensures { λ number. ⌜ number < 65536 ⌝ }
-{
-    wide(head[at]) * 256 + wide(head[at + 1])
-}
-
-// A byte as a number.
-fn wide(byte: u8) -> usize
-    ensures { λ value. ⌜ value < 256 ⌝ }
-{
-    byte as usize
 }
 
 // Lets the entry answer, and prints the line.

@@ -27,29 +27,26 @@ returns-2 : tie.Need-returns-2
 unfolding isTrailer firstMark secondMark
 returns-2 c = rw (eq-eqb _ _ (c .before .before .if1 .left), ne-eqb _ _ (c .if2 .taken))
 
-shared-slice-read-wide : tie.Need-shared-slice-read-wide
+byte-at-requires : tie.Need-byte-at-requires
 unfolding trailerLength
-shared-slice-read-wide c = omega arith
-
-wide-requires : tie.Need-wide-requires
-wide-requires c κs = search needs
+byte-at-requires c κs = omega arith
 
 returns-3 : tie.Need-returns-3
 unfolding isTrailer firstMark secondMark toldKind aKind callsOnly
 returns-3 c =
     rw (
-      eq-eqb _ _ (c .before .before .before .before .before .if1 .left),
-      eq-eqb _ _ (c .before .before .before .if2 .left),
-      eq-eqb _ _ (sym (c .before .wide .ensures .0) ∙ c .if3 .taken),
+      eq-eqb _ _ (c .before .before .before .before .if1 .left),
+      eq-eqb _ _ (c .before .before .if2 .left),
+      eq-eqb _ _ (sym (c .before .byte-at .ensures .0) ∙ c .if3 .taken),
     )
 
 returns-4 : tie.Need-returns-4
 unfolding isTrailer firstMark secondMark toldKind aKind callsOnly planned
 returns-4 c =
     rw (
-      eq-eqb _ _ (c .before .before .before .before .before .if1 .left),
-      eq-eqb _ _ (c .before .before .before .if2 .left),
-      ← c .before .wide .ensures .0,
+      eq-eqb _ _ (c .before .before .before .before .if1 .left),
+      eq-eqb _ _ (c .before .before .if2 .left),
+      ← c .before .byte-at .ensures .0,
       ne-eqb _ _ (c .if3 .left),
     )
 
@@ -62,7 +59,6 @@ is-trailer-spec =
     add-if2
     shared-slice-read-if2
     returns-2
-    shared-slice-read-wide
-    wide-requires
+    byte-at-requires
     returns-3
     returns-4)

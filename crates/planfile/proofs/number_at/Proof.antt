@@ -5,40 +5,32 @@ use Rattle.planfile.specs.File.{numberAt}
 use Rattle.planfile.proofs.number_at.Statement.{statement}
 use Rattle.planfile.proofs.number_at.Tie as tie
 
-shared-slice-read-wide : tie.Need-shared-slice-read-wide
-shared-slice-read-wide c = search needs
-
-wide-requires : tie.Need-wide-requires
-wide-requires c κs = search needs
+byte-at-requires : tie.Need-byte-at-requires
+byte-at-requires c κs = search needs
 
 mul-result : tie.Need-mul-result
 mul-result c = search needs
 
-add-wide : tie.Need-add-wide
-add-wide c = search needs
+add-byte-at : tie.Need-add-byte-at
+add-byte-at c = search needs
 
-shared-slice-read-wide-2 : tie.Need-shared-slice-read-wide-2
-shared-slice-read-wide-2 c = search needs
-
-wide-requires-2 : tie.Need-wide-requires-2
-wide-requires-2 c κs = search needs
+byte-at-requires-2 : tie.Need-byte-at-requires-2
+byte-at-requires-2 c κs = search needs
 
 add-result : tie.Need-add-result
 add-result c = search needs
 
 returns : tie.Need-returns
 unfolding numberAt
-returns c = omega arith
+returns c = (omega arith, omega arith)
 
 pub number-at-spec : {M : Type 1} → statement M
 number-at-spec =
     tie.close
     (tie.spec
-    shared-slice-read-wide
-    wide-requires
+    byte-at-requires
     mul-result
-    add-wide
-    shared-slice-read-wide-2
-    wide-requires-2
+    add-byte-at
+    byte-at-requires-2
     add-result
     returns)

@@ -43,7 +43,7 @@ abbrev To-limits : tie.After-known-told → tie.Else2
 To-limits c = c .before .before .before .before
 
 abbrev To-places : tie.After-are-stated → tie.After-known-told
-To-places c = c .before .before .before .before .before .before .before
+To-places c = c .before .before .before .before .before .before
 
 long : (c : tie.Else2) → trailerLength ≤ length (File c)
 unfolding trailerLength
@@ -57,21 +57,21 @@ made : (c : tie.After-known-told) → (withinLimits (toldNet (trailerIn (File (T
 unfolding trailerIn trailerAt trailerLength part
 made c = made-sized _ _ (sym (c .before .before .before .network-in .ensures) ∙ c .before .net .given .1)
 
-counted : (c : tie.Else3) → toldCount (trailerIn (File (To-limits (c .before .before .before .before)))) ≤ mostCalls
+counted : (c : tie.Else3) → toldCount (trailerIn (File (To-limits (c .before .before .before)))) ≤ mostCalls
 unfolding trailerIn trailerAt trailerLength part toldCount mostCalls
-counted c = rw (c .before .number-at .ensures) at (c .if3 .left)
+counted c = rw (c .before .number-at .ensures .0) at (c .if3 .left)
 
 judged : (c : tie.After-are-stated) → c .are-stated .result ≡ placesTold (trailerIn (File (To-limits (To-places c)))) (trailerAt (File (To-limits (To-places c))))
 unfolding placesTold trailerIn trailerAt trailerLength part toldKind toldCount toldSettingsBack toldCallsBack
 judged c =
     rw (
-      ← c .before .before .before .before .before .wide .ensures .0,
-      ← c .before .before .before .before .number-at .ensures,
-      ← c .before .before .number-at2 .ensures,
-      ← c .before .number-at3 .ensures,
+      ← c .before .before .before .before .before .byte-at .ensures .0,
+      ← c .before .before .before .before .number-at .ensures .0,
+      ← c .before .before .number-at2 .ensures .0,
+      ← c .before .number-at3 .ensures .0,
     ) (c .are-stated .ensures)
 
-stated : (c : tie.Else4) → Places (c .before .before .before .before .before .before .wide .result) (c .before .before .before .before .before .number-at .result) (c .before .before .before .number-at2 .result) (c .before .before .number-at3 .result) (trailerAt (File (To-limits (To-places (c .before)))))
+stated : (c : tie.Else4) → Places (c .before .before .before .before .before .before .byte-at .result) (c .before .before .before .before .before .number-at .result) (c .before .before .before .number-at2 .result) (c .before .before .number-at3 .result) (trailerAt (File (To-limits (To-places (c .before)))))
 unfolding trailerAt trailerLength
 stated c = places-are _ _ _ _ _ .0 (rw (sym (c .before .are-stated .ensures) ∙ not-false _ (c .if4 .left)) tt)
 
@@ -95,11 +95,8 @@ returns-3 c =
     let else2 = c .before .before .before in
     wrong-sizes _ (long else2) (marked else2) (not-sized _ (sym (c .before .before .network-in .ensures) ∙ c .enum-told .given .1))
 
-shared-slice-read-wide : tie.Need-shared-slice-read-wide
-shared-slice-read-wide c = search needs
-
-wide-requires : tie.Need-wide-requires
-wide-requires c κs = search needs
+byte-at-requires : tie.Need-byte-at-requires
+byte-at-requires c κs = search needs
 
 number-at-requires : tie.Need-number-at-requires
 number-at-requires c κs = search needs
@@ -107,8 +104,8 @@ number-at-requires c κs = search needs
 returns-4 : tie.Need-returns-4
 unfolding trailerIn trailerAt trailerLength part toldCount mostCalls
 returns-4 c =
-    let sized = c .before .before .before .before in
-    many-calls _ (long (To-limits sized)) (marked (To-limits sized)) (made sized .0) (rw (c .before .number-at .ensures) at (c .if3 .taken))
+    let sized = c .before .before .before in
+    many-calls _ (long (To-limits sized)) (marked (To-limits sized)) (made sized .0) (rw (c .before .number-at .ensures .0) at (c .if3 .taken))
 
 number-at-requires-2 : tie.Need-number-at-requires-2
 number-at-requires-2 c κs = search needs
@@ -129,9 +126,9 @@ sub-t9 : tie.Need-sub-t9
 unfolding trailerAt trailerLength
 sub-t9 c = stated c .held
 
-sub-t22 : tie.Need-sub-t22
+sub-t20 : tie.Need-sub-t20
 unfolding trailerAt trailerLength
-sub-t22 c = omega (arith, stated c .held, settings-held (stated c))
+sub-t20 c = omega (arith, stated c .held, settings-held (stated c))
 
 returns-6 : tie.Need-returns-6
 unfolding trailerIn trailerAt trailerLength part toldKind toldCount toldSettingsBack toldCallsBack
@@ -139,10 +136,10 @@ returns-6 c =
     let sized = To-places (c .before) in
     whole-trailer _ (long (To-limits sized)) (marked (To-limits sized)) (made sized .0) (counted (c .before .before .before .before)) _ _ _ _ _
     (made sized .1)
-    (c .before .before .before .before .before .before .wide .ensures .0)
-    (c .before .before .before .before .before .number-at .ensures)
-    (c .before .before .before .number-at2 .ensures)
-    (c .before .before .number-at3 .ensures)
+    (c .before .before .before .before .before .before .byte-at .ensures .0)
+    (c .before .before .before .before .before .number-at .ensures .0)
+    (c .before .before .before .number-at2 .ensures .0)
+    (c .before .before .number-at3 .ensures .0)
     (sym (judged (c .before)) ∙ not-false _ (c .if4 .left))
 
 pub take-trailer-spec : {M : Type 1} → statement M
@@ -160,8 +157,7 @@ take-trailer-spec =
     enum-known-net
     enum-told
     returns-3
-    shared-slice-read-wide
-    wide-requires
+    byte-at-requires
     number-at-requires
     returns-4
     number-at-requires-2
@@ -169,5 +165,5 @@ take-trailer-spec =
     are-stated-requires
     returns-5
     sub-t9
-    sub-t22
+    sub-t20
     returns-6)

@@ -14,35 +14,35 @@ fill-requires c κs = search needs
 returns : tie.Need-returns
 returns c = search needs
 
-slice-aggregate-length-at : tie.Need-slice-aggregate-length-at
-slice-aggregate-length-at c = search needs
+slice-aggregate-number-at : tie.Need-slice-aggregate-number-at
+slice-aggregate-number-at c = search needs
 
-length-at-requires : tie.Need-length-at-requires
-length-at-requires c κs = search needs
+number-at-requires : tie.Need-number-at-requires
+number-at-requires c κs = search needs
 
-slice-aggregate-length-at-2 : tie.Need-slice-aggregate-length-at-2
-slice-aggregate-length-at-2 c = search needs
+slice-aggregate-number-at-2 : tie.Need-slice-aggregate-number-at-2
+slice-aggregate-number-at-2 c = search needs
 
-length-at-requires-2 : tie.Need-length-at-requires-2
-length-at-requires-2 c κs = search needs
+number-at-requires-2 : tie.Need-number-at-requires-2
+number-at-requires-2 c κs = search needs
 
 add-calls-end : tie.Need-add-calls-end
 add-calls-end c = search needs
 
-slice-aggregate-length-at-3 : tie.Need-slice-aggregate-length-at-3
-slice-aggregate-length-at-3 c = search needs
+slice-aggregate-number-at-3 : tie.Need-slice-aggregate-number-at-3
+slice-aggregate-number-at-3 c = search needs
 
-length-at-requires-3 : tie.Need-length-at-requires-3
-length-at-requires-3 c κs = search needs
+number-at-requires-3 : tie.Need-number-at-requires-3
+number-at-requires-3 c κs = search needs
 
 add-settings-end : tie.Need-add-settings-end
 add-settings-end c = search needs
 
-slice-aggregate-length-at-4 : tie.Need-slice-aggregate-length-at-4
-slice-aggregate-length-at-4 c = search needs
+slice-aggregate-number-at-4 : tie.Need-slice-aggregate-number-at-4
+slice-aggregate-number-at-4 c = search needs
 
-length-at-requires-4 : tie.Need-length-at-requires-4
-length-at-requires-4 c κs = search needs
+number-at-requires-4 : tie.Need-number-at-requires-4
+number-at-requires-4 c κs = search needs
 
 returns-2 : tie.Need-returns-2
 returns-2 c = search needs
@@ -83,23 +83,23 @@ same-length-3 c = search needs
 returns-5 : tie.Need-returns-5
 returns-5 c = search needs
 
-array-read-wide : tie.Need-array-read-wide
-array-read-wide c = search needs
+slice-aggregate-byte-at : tie.Need-slice-aggregate-byte-at
+slice-aggregate-byte-at c = search needs
 
-wide-requires : tie.Need-wide-requires
-wide-requires c κs = search needs
+byte-at-requires : tie.Need-byte-at-requires
+byte-at-requires c κs = search needs
 
-array-read-wide-2 : tie.Need-array-read-wide-2
-array-read-wide-2 c = search needs
+slice-aggregate-byte-at-2 : tie.Need-slice-aggregate-byte-at-2
+slice-aggregate-byte-at-2 c = search needs
 
-wide-requires-2 : tie.Need-wide-requires-2
-wide-requires-2 c κs = search needs
+byte-at-requires-2 : tie.Need-byte-at-requires-2
+byte-at-requires-2 c κs = search needs
 
-array-read-wide-3 : tie.Need-array-read-wide-3
-array-read-wide-3 c = search needs
+slice-aggregate-byte-at-3 : tie.Need-slice-aggregate-byte-at-3
+slice-aggregate-byte-at-3 c = search needs
 
-wide-requires-3 : tie.Need-wide-requires-3
-wide-requires-3 c κs = search needs
+byte-at-requires-3 : tie.Need-byte-at-requires-3
+byte-at-requires-3 c κs = search needs
 
 array-read-answer : tie.Need-array-read-answer
 array-read-answer c = search needs
@@ -144,16 +144,16 @@ answer-next-spec =
     slice-aggregate-fill
     fill-requires
     returns
-    slice-aggregate-length-at
-    length-at-requires
-    slice-aggregate-length-at-2
-    length-at-requires-2
+    slice-aggregate-number-at
+    number-at-requires
+    slice-aggregate-number-at-2
+    number-at-requires-2
     add-calls-end
-    slice-aggregate-length-at-3
-    length-at-requires-3
+    slice-aggregate-number-at-3
+    number-at-requires-3
     add-settings-end
-    slice-aggregate-length-at-4
-    length-at-requires-4
+    slice-aggregate-number-at-4
+    number-at-requires-4
     returns-2
     returns-3
     slice-relend-prefix-fill
@@ -167,12 +167,12 @@ answer-next-spec =
     same-length-2
     same-length-3
     returns-5
-    array-read-wide
-    wide-requires
-    array-read-wide-2
-    wide-requires-2
-    array-read-wide-3
-    wide-requires-3
+    slice-aggregate-byte-at
+    byte-at-requires
+    slice-aggregate-byte-at-2
+    byte-at-requires-2
+    slice-aggregate-byte-at-3
+    byte-at-requires-3
     array-read-answer
     slice-aggregate-answer
     sub-answer
