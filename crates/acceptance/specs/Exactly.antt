@@ -1,5 +1,11 @@
 -- Acceptance says yes exactly when the settings are lawful, for any call table in order and any settings; and two answers
 -- that satisfy its guarantee are the same.
+--   light-passes        == 9, 10 and 11 pass exactly where the ports are those of the row
+--   rows-pass, rows-lawful == 9 to 13 pass for all rows exactly where the settings are lawful
+--   accepted-exactly    == the number is 0 exactly when the settings are lawful
+--   accepted-K          == and then the row is K
+--   accepts, one-answer == the answer has the guarantee, and no other answer has it
+--   never-eight         == acceptance never gives 8
 use mathlib.Core.Path.{_≡_, refl, sym, ap, _∙_}
 use mathlib.Core.Logic.{_↔_, Iff·trans}
 use mathlib.Core.Bool.{Bool, not}

@@ -1,4 +1,7 @@
 -- What the tests of one row's light tell, in the order in which they are tried: for the code of that row.
+--   light-nine, light-ten, light-eleven == the refusal of the first test that fails
+--   light-passed        == none fails
+--   owned-numbers       == what the test of 9 leaves known
 use mathlib.Core.Path.{_≡_}
 use mathlib.Core.Bool.{Bool, true, false}
 use Prim.Native.Nat.{ℕ, _<_}

@@ -1,4 +1,9 @@
 -- What it means that a check passes, and what all of them together say: the table is in order.
+--   sizes-pass, lengths-pass, count-passes == when 1, 2 and 3 pass
+--   outside-passes, inlets-pass, outlets-pass == when 5, 6 and 7 pass
+--   Once f g k          == no two rows below k have the same f and g
+--   size-checks-pass, call-checks-pass, in-order-is == when all of them pass
+--   size-number, row-number, call-number == which numbers they can tell
 use mathlib.Core.Path.{_≡_}
 use mathlib.Core.Logic.{_↔_, Iff·trans}
 use mathlib.Core.Bool.{Bool, true, false, not, _&&_, _||_}

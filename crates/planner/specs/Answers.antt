@@ -1,4 +1,7 @@
 -- From what the refusals tell to the whole answer: for the code of the entry.
+--   plans-refused       == a refusal has the guarantee where no byte changed
+--   plannable           == what passing all refusals leaves known
+--   plans-placed        == success has the guarantee where the settings were written
 use mathlib.Core.Path.{_≡_, refl, ap, _∙_}
 use mathlib.Core.List.{List, _++_}
 use Prim.Native.Nat.{ℕ, _*_}

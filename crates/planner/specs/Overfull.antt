@@ -1,4 +1,7 @@
 -- Overfull modules: what refusal 8 finds, row by row, is a module with more calls than there are centrals.
+--   fits-is             == a row is not overfull exactly where its modules have room for it
+--   rows-modules, modules-rows == from rows to modules, and back
+--   overfull-passes, none-overfull-passes == 8 passes exactly where no module is overfull
 use mathlib.Core.Path.{_≡_}
 use mathlib.Core.Logic.{_↔_, Iff·trans}
 use mathlib.Core.Bool.{Bool, true, false, not}

@@ -1,5 +1,9 @@
 -- What the planner owes follows from its answer and its buffer: settings, lawful, whenever no module is overfull; and refusal 8
 -- where one is, and then no settings whatever are lawful. Two answers that satisfy the guarantee are the same.
+--   room-passes         == when 4 passes
+--   verdict-passes      == the planner succeeds exactly where each of its checks passes
+--   verdict-success, verdict-eight == what it then tells, and what it tells where all but 8 passed
+--   plans, one-answer   == answer and buffer have the guarantee, and no others have it
 use mathlib.Core.Path.{_≡_, refl, sym, ap, _∙_}
 use mathlib.Core.Logic.{_⊎_, inl, inr, _↔_, Iff·trans, ⊎-elim}
 use mathlib.Core.Bool.{Bool}

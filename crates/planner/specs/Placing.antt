@@ -1,4 +1,7 @@
 -- Placing all calls, one after the other: what the loop rests on and keeps.
+--   placeable           == the next call can be placed
+--   next-centrals, next-moved == one placement more is one row more of the plan
+--   moved-small         == the moved count stays far below what its number can hold
 use mathlib.Core.Path.{_≡_, _∙_}
 use mathlib.Core.List.{List}
 use Prim.Native.Nat.{ℕ, _+_, _*_, _-_, _≤_, _<_}

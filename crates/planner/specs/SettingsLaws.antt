@@ -1,4 +1,8 @@
 -- The settings rows that the planner writes, read back, and that they are lawful where no module uses a central twice.
+--   settings-length, kept-length, settings-next == the rows written so far, one more of them, and the bytes beyond
+--   settings-x, settings-γ, settings-y == a row read back
+--   settings-lawful     == they are lawful where the centrals are a fine colouring
+--   lawful-fine         == the centrals of lawful settings are a fine colouring
 use mathlib.Core.Path.{_≡_, refl, sym, ap, _∙_}
 use mathlib.Core.Logic.{_⊎_, inl, inr, ⊎-elim}
 use mathlib.Core.List.{List, [], _∷_, _++_, append-assoc}

@@ -1,4 +1,5 @@
 -- Two numbers in one: a table with rows of w places, kept in one list.
+--   slot-same           == a place in the list tells both numbers
 use mathlib.Core.Path.{_≡_, sym, ap, _∙_}
 use Prim.Native.Nat.{ℕ, _+_, _*_, _/_, _%_, _<_}
 use native.Mathlib.Nat.{mod-eq-of-lt, mul-add-mod-self-right, mul-div-cancel}
