@@ -2,4 +2,3 @@ pub mod Acceptance
 pub mod Exactly
 pub mod Tests
 pub mod Pairs
-pub mod Examples

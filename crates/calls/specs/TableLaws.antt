@@ -1,10 +1,11 @@
 -- What it means that a check passes, and what all of them together say: the table is in order.
 --   sizes-pass, lengths-pass, count-passes == when 1, 2 and 3 pass
+--   every-row, some-row == a check sought row by row passes where every row does, and else some row does not
 --   outside-passes, inlets-pass, outlets-pass == when 5, 6 and 7 pass
 --   Once f g k          == no two rows below k have the same f and g
 --   size-checks-pass, call-checks-pass, in-order-is == when all of them pass
 --   size-number, row-number, call-number == which numbers they can tell
-use mathlib.Core.Path.{_≡_}
+use mathlib.Core.Path.{_≡_, refl}
 use mathlib.Core.Logic.{_↔_, Iff·trans}
 use mathlib.Core.Bool.{Bool, true, false, not, _&&_, _||_}
 use mathlib.Core.List.{List}
@@ -16,7 +17,7 @@ use Rattle.shelf.specs.declared.Network.{Network}
 use Rattle.shelf.specs.Network.{withinLimits, mostCalls}
 use Rattle.shelf.specs.NetworkLaws.{limits-are}
 use Rattle.shelf.specs.Rows.{rowCount, α, ω, β, ω'}
-use Rattle.shelf.specs.Every.{both-is, not-is, neither-is, some-is}
+use Rattle.shelf.specs.Every.{someBelow, both-is, not-is, neither-is, some-is}
 use Rattle.shelf.specs.Arrival.{eqb-is}
 use Rattle.calls.specs.Verdict.{refusedIf, _⨾_, seekRows}
 use Rattle.calls.specs.VerdictLaws.{refused-zero, seek-passes, then-passes, then-number, test-number, seek-number}
@@ -94,6 +95,13 @@ every-row number k bad = Iff·trans (seek-passes (λ i. refusedIf (suc number) i
   λ h i l. refused-zero number i (bad i) .0 (h i l),
   λ h i l. refused-zero number i (bad i) .1 (h i l),
 )
+
+pub some-row : (number k : ℕ) (bad : ℕ → Bool) → (seekRows k (λ i. refusedIf (suc number) i (bad i)) .number ≡ 0 → ⊥) → (i : ℕ) × (i < k) × T (bad i)
+some-row number k bad n = go (someBelow k bad) refl
+  where
+    go : (b : Bool) → someBelow k bad ≡ b → (i : ℕ) × (i < k) × T (bad i)
+    go true e = some-is k bad .0 (rw e tt)
+    go false e = absurd (n (every-row number k bad .1 (λ i l. not-is (bad i) .1 (λ t. rw e at (some-is k bad .1 (i, l, t))))))
 
 pub outside-passes : (net : Network) (calls : List ℕ) → (outsideRow net calls .number ≡ 0) ↔ ((i : ℕ) → i < rowCount calls → Inside net calls i)
 unfolding outsideRow

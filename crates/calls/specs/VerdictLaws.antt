@@ -1,6 +1,7 @@
 -- Laws of answers in order.
 --   stops, goes-on       == what ⨾ gives where the first refuses, and where it does not
 --   answer-stops, answer-goes-on == the same, for the answers of checks that were tried
+--   later-tells          == a number that the first of two checks never tells comes from the second
 --   then-assoc           == checks may be grouped
 --   seek-here, seek-next == a search row by row: the first refused row is what is told
 use mathlib.Core.Path.{_≡_, refl, sym, ap, _∙_}
@@ -39,6 +40,10 @@ passes-or v = go (eqb (v .number) 0) refl
     go : (b : Bool) → eqb (v .number) 0 ≡ b → (v .number ≡ 0) ⊎ (v .number ≡ 0 → ⊥)
     go true e = inl (eqb-true (v .number) 0 e)
     go false e = inr (eqb-false (v .number) 0 e)
+
+pub later-tells : (number : ℕ) (v w : Verdict) → (v .number ≡ number → ⊥) → (v ⨾ w) .number ≡ number → (v .number ≡ 0) × (w .number ≡ number)
+later-tells number v w other h =
+    ⊎-elim (λ e. (e, sym (ap (λ (u : Verdict). u .number) (goes-on v w e)) ∙ h)) (λ n. absurd (other (sym (ap (λ (u : Verdict). u .number) (stops v w n)) ∙ h))) (passes-or v)
 
 pub then-assoc : (u v w : Verdict) → (u ⨾ v) ⨾ w ≡ u ⨾ (v ⨾ w)
 then-assoc u v w = go (passes-or u)

@@ -162,14 +162,14 @@ module _ (γ : ℕ → ℕ) (k : ℕ) where
   mutual
     unfolding nearModules farModules
 
-    arrived-near : {h f : ℕ → ℕ} {v c d : ℕ} {es : List ℕ} → Runs h f v c d es → (z : ℕ) → In z (nearModules h f v es)
+    pub arrived-near : {h f : ℕ → ℕ} {v c d : ℕ} {es : List ℕ} → Runs h f v c d es → (z : ℕ) → In z (nearModules h f v es)
         → (z ≡ v) ⊎ ((i : ℕ) × In i es × (γ i ≡ d) × (h i ≡ z))
     arrived-near (stop w) z (here q) = inl q
     arrived-near (stop w) z (there p) = absurd (not-in-nil p)
     arrived-near (next e l x y r) z (here q) = inl q
     arrived-near (next e l x y r) z (there p) = let w = arrived-far r z p in inr (w .0, there (w .1), w .2, w .3)
 
-    arrived-far : {h f : ℕ → ℕ} {v c d : ℕ} {es : List ℕ} → Runs h f v c d es → (z : ℕ) → In z (farModules h f v es)
+    pub arrived-far : {h f : ℕ → ℕ} {v c d : ℕ} {es : List ℕ} → Runs h f v c d es → (z : ℕ) → In z (farModules h f v es)
         → (i : ℕ) × In i es × (γ i ≡ c) × (f i ≡ z)
     arrived-far (stop w) z p = absurd (not-in-nil p)
     arrived-far {h} {f} {v} {c} {d} (next {es = es} e l x y r) z p = go (arrived-near r z p)

@@ -1,11 +1,11 @@
 pub mod Rule
-pub mod Examples
 pub mod Lists
 pub mod Search
 pub mod Chain
 pub mod Exchange
 pub mod Count
 pub mod StepLaws
+pub mod Met
 pub mod PlanLaws
 pub mod Use
 pub mod Order

@@ -5,7 +5,7 @@ use mathlib.Core.Logic.{_⊎_, inl, inr}
 use mathlib.Core.Bool.{Bool, true, false, not, cond, _&&_, true≢false, false≢true}
 use mathlib.Core.Option.{Option, none, some}
 use mathlib.Core.List.{List, [], _∷_}
-use Prim.Native.Nat.{ℕ, _+_, _*_, _%_, _≤_, _<_}
+use Prim.Native.Nat.{ℕ, _+_, _-_, _*_, _%_, _≤_, _<_}
 use native.Mathlib.Numerals.{add-one}
 use native.Mathlib.Decide.{ℕ-discrete}
 use native.Mathlib.Omega.{arith}
@@ -190,13 +190,13 @@ module _ {net : Network} {calls centrals used : List ℕ} {k a b : ℕ} (s : Sea
   pub small-b : b < mostCentrals
   small-b = first-small net calls centrals used k h b (s .own-b)
 
-  -- with the modules of both sides as its bound the walk is the whole chain
-  module _ {centrals₁ : List ℕ} {w : Walk} (walked : Walked (β calls) (α calls) k (β calls k) a b (2 * net .r) centrals centrals₁ w) where
-    whole : chain (2 * net .r) (β calls) (α calls) (at centrals) k (β calls k) a b ≡ stepChain (α calls) (β calls) (at centrals) k a b
-    whole = chain-bound (α calls) (β calls) (at centrals) k a b start (net .r) (h .modules) (2 * net .r) (omega arith)
+  -- with the modules not yet met as its bound the walk is the whole chain
+  module _ {centrals₁ : List ℕ} {w : Walk} (walked : Walked (β calls) (α calls) k (β calls k) a b (2 * net .r - 1) centrals centrals₁ w) where
+    whole : chain (2 * net .r - 1) (β calls) (α calls) (at centrals) k (β calls k) a b ≡ stepChain (α calls) (β calls) (at centrals) k a b
+    whole = chain-bound (α calls) (β calls) (at centrals) k a b start (net .r) (h .modules) (2 * net .r - 1) (omega arith)
 
     last-is : w .last ≡ stepEnd (α calls) (β calls) (at centrals) k a b
-    last-is = walked .last ∙ end-bound (α calls) (β calls) (at centrals) k a b start (net .r) (h .modules) (2 * net .r) (omega arith)
+    last-is = walked .last ∙ end-bound (α calls) (β calls) (at centrals) k a b start (net .r) (h .modules) (2 * net .r - 1) (omega arith)
 
     moved-is : w .moved ≡ length (stepChain (α calls) (β calls) (at centrals) k a b)
     moved-is = walked .moved ∙ ap length whole

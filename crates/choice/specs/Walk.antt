@@ -134,7 +134,7 @@ module _ (h f : ℕ → ℕ) (k v c d left : ℕ) (centrals : List ℕ) where
           }
 
 -- a chain is no longer than its bound
-pub walk-length : (n : ℕ) (h f γ : ℕ → ℕ) (k v c d : ℕ) → length (chain n h f γ k v c d) ≤ n
+walk-length : (n : ℕ) (h f γ : ℕ → ℕ) (k v c d : ℕ) → length (chain n h f γ k v c d) ≤ n
 unfolding chain
 walk-length zero h f γ k v c d = omega arith
 walk-length (suc n) h f γ k v c d = go (rowOn h γ k v c) (λ e. walk-length n f h γ k (f e) d c)
@@ -142,6 +142,9 @@ walk-length (suc n) h f γ k v c d = go (rowOn h γ k v c) (λ e. walk-length n 
     go : (o : Option ℕ) → ((e : ℕ) → length (chain n f h γ k (f e) d c) ≤ n) → length {A = ℕ} (elim o [ none ↦ [] | some e ↦ e ∷ chain n f h γ k (f e) d c ]) ≤ suc n
     go none deep = omega arith
     go (some e) deep = omega (arith, deep e)
+
+pub walked-few : {h f : ℕ → ℕ} {k v c d left : ℕ} {centrals centrals′ : List ℕ} {w : Walk} → Walked h f k v c d left centrals centrals′ w → w .moved ≤ left
+walked-few {h} {f} {k} {v} {c} {d} {left} {centrals} walked = rw (walked .moved) (walk-length left h f (at centrals) k v c d)
 
 -- ---- the first of the centrals from c on
 

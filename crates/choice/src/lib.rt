@@ -62,7 +62,15 @@ fn place_by_chain(
     let output = place_of(true, module);
     let a = first_common(used, input, input, net.m);
     let b = first_common(used, output, output, net.m);
-    let walk = chain_from_output(calls, centrals, row, module, a as u8, b as u8, 2 * net.r);
+    let walk = chain_from_output(
+        calls,
+        centrals,
+        row,
+        module,
+        a as u8,
+        b as u8,
+        2 * net.r - 1,
+    );
     centrals[row] = a as u8;
     let last = place_of(walk.moved % 2 == 0, walk.last);
     swap(used, last, a, b);
@@ -72,7 +80,8 @@ fn place_by_chain(
 }
 
 // The chain from the output module `module`, over the calls of the rows below `count`: the call there on `c`, then at its input
-// module the call on `d`, and so on. Its calls change between `c` and `d`. `left` counts the modules not yet met.
+// module the call on `d`, and so on. Its calls change between `c` and `d`. `left` is the number of the modules not yet met, of
+// both sides: it falls with each call, and is never what ends a chain (specs/Met.antt).
 fn chain_from_output(
     calls: &[u8],
     centrals: &mut [u8],

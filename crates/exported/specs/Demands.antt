@@ -2,24 +2,22 @@
 -- satisfies these laws; nothing here speaks of code.
 --   planned-exactly     == the planner answers 0 exactly for tables in order, with room, and with no module overfull
 --   planned-accepted    == settings that the planner wrote are accepted
---   overfull-refused    == where a module is overfull the planner answers 8, and acceptance says yes to no settings whatever
+--   overfull-accepts-none, eight-accepts-none == where a module is overfull, so also where the planner answers 8, acceptance says yes to no settings
+--                          whatever
 use mathlib.Core.Path.{_≡_, ap, sym, _∙_}
 use native.Mathlib.Omega.{arith}
 use mathlib.Core.Logic.{_↔_}
-use mathlib.Core.Bool.{Bool}
 use mathlib.Core.List.{List}
-use Prim.Native.Nat.{ℕ, _*_, _≤_, _<_}
+use Prim.Native.Nat.{ℕ, _*_, _≤_}
 use lib.ListN.{length, take}
 use Rattle.shelf.specs.declared.Network.{Network}
-use Rattle.shelf.specs.Rows.{rowCount, moduleOf}
+use Rattle.shelf.specs.Rows.{rowCount}
 use Rattle.calls.specs.declared.Verdict.{Verdict}
 use Rattle.calls.specs.Table.{InOrder}
 use Rattle.calls.specs.TableLaws.{in-order-is}
 use Rattle.acceptance.specs.Acceptance.{Accepts}
-use Rattle.choice.specs.Count.{atModule}
-use Rattle.choice.specs.Order.{order}
 use Rattle.planner.specs.declared.Planned.{Planned}
-use Rattle.planner.specs.Planner.{plannerVerdict, planAnswer, NoneOverfull, Plans}
+use Rattle.planner.specs.Planner.{plannerVerdict, planAnswer, NoneOverfull, SomeOverfull, Plans}
 use Rattle.planner.specs.Owed.{room-passes, verdict-passes}
 use Rattle.planner.specs.Overfull.{none-overfull-passes}
 
@@ -43,10 +41,9 @@ module _ {net : Network} {calls before after : List ℕ} {a : Planned} (plans : 
       let h = planned-exactly .0 zero in
       accepts .exactly (h .0) .1 (plans .owed (h .0) (h .1) (h .2) .1)
 
-  -- "when one has more it refuses, and then no settings exist that would be accepted"
-  pub overfull-refused : InOrder net calls → 3 * rowCount calls ≤ length before → (output : Bool) (v : ℕ)
-      → length (order net) < length (atModule (moduleOf calls output) (rowCount calls) v)
-      → (a .number ≡ 8) × ((settings : List ℕ) (w : Verdict) → Accepts net calls settings w → w .number ≡ 0 → ⊥)
-  overfull-refused in-order room output v over =
-      let h = plans .impossible in-order room output v over in
-      (h .0, λ settings w accepts zero. h .1 settings (accepts .exactly in-order .0 zero))
+  -- "when one has more it refuses, and then no settings exist that would be accepted": that it refuses is `eight` of `Plans`
+  pub overfull-accepts-none : InOrder net calls → SomeOverfull net calls → (settings : List ℕ) (v : Verdict) → Accepts net calls settings v → v .number ≡ 0 → ⊥
+  overfull-accepts-none in-order some settings v accepts zero = plans .impossible in-order some settings (accepts .exactly in-order .0 zero)
+
+  pub eight-accepts-none : a .number ≡ 8 → (settings : List ℕ) (v : Verdict) → Accepts net calls settings v → v .number ≡ 0 → ⊥
+  eight-accepts-none e = let h = plans .eight .0 e in overfull-accepts-none (h .0) (h .2)

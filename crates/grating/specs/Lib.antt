@@ -1,3 +1,2 @@
 pub mod Grating
 pub mod Laws
-pub mod Examples

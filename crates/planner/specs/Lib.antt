@@ -6,4 +6,3 @@ pub mod Steps
 pub mod Tally
 pub mod Placing
 pub mod Answers
-pub mod Examples

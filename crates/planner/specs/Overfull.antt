@@ -2,25 +2,26 @@
 --   fits-is             == a row is not overfull exactly where its modules have room for it
 --   rows-modules, modules-rows == from rows to modules, and back
 --   overfull-passes, none-overfull-passes == 8 passes exactly where no module is overfull
+--   some-overfull       == where it does not, some module is
 use mathlib.Core.Path.{_≡_}
-use mathlib.Core.Logic.{_↔_, Iff·trans}
+use mathlib.Core.Logic.{_↔_, Iff·trans, ⊎-elim}
 use mathlib.Core.Bool.{Bool, true, false, not}
 use mathlib.Core.List.{List}
 use Prim.Native.Nat.{ℕ, zero, suc, _≤_, _<_}
 use native.Mathlib.Decide.{ℕ-discrete, le-ind}
 use native.Mathlib.Omega.{arith}
-use lib.Dec.{T, ltb}
+use lib.Dec.{T, ltb, ltb→lt}
 use lib.ListN.{length}
 use borrow.Author.Tests.{eq-eqb, ne-eqb}
 use Rattle.shelf.specs.declared.Network.{Network}
 use Rattle.shelf.specs.Rows.{rowCount, α, β, moduleOf}
-use Rattle.shelf.specs.Every.{neither-is}
-use Rattle.calls.specs.TableLaws.{less-is, every-row}
+use Rattle.shelf.specs.Every.{either-is, neither-is}
+use Rattle.calls.specs.TableLaws.{less-is, every-row, some-row}
 use Rattle.choice.specs.Search.{rowsBelow}
 use Rattle.choice.specs.Count.{atModule, count-next}
 use Rattle.choice.specs.PlanLaws.{Fits}
 use Rattle.choice.specs.Order.{order}
-use Rattle.planner.specs.Planner.{overfull, overfullRow, NoneOverfull}
+use Rattle.planner.specs.Planner.{overfull, overfullRow, NoneOverfull, SomeOverfull}
 
 pub fits-is : (net : Network) (calls : List ℕ) (i : ℕ) → T (not (overfull net calls i)) ↔ (Fits (α calls) (order net) i × Fits (β calls) (order net) i)
 unfolding overfull
@@ -80,3 +81,15 @@ none-overfull-passes net calls = Iff·trans (overfull-passes net calls) (
     sides : ((i : ℕ) → i < rowCount calls → Fits (α calls) (order net) i × Fits (β calls) (order net) i) → (output : Bool) (v : ℕ) → length (atModule (moduleOf calls output) (rowCount calls) v) ≤ length (order net)
     sides h true v = rows-modules (β calls) (order net) (rowCount calls) (λ i l. h i l .1) v
     sides h false v = rows-modules (α calls) (order net) (rowCount calls) (λ i l. h i l .0) v
+
+pub some-overfull : (net : Network) (calls : List ℕ) → (overfullRow net calls .number ≡ 0 → ⊥) → SomeOverfull net calls
+unfolding overfullRow overfull
+some-overfull net calls n =
+    let w = some-row 7 (rowCount calls) (overfull net calls) n in
+    ⊎-elim
+    (λ h. (false, α calls (w .0), over (α calls) (w .0) (w .1) h))
+    (λ h. (true, β calls (w .0), over (β calls) (w .0) (w .1) h))
+    (either-is (ltb (length (order net)) (length (atModule (α calls) (suc (w .0)) (α calls (w .0))))) _ .0 (w .2))
+  where
+    over : (f : ℕ → ℕ) (i : ℕ) → i < rowCount calls → T (ltb (length (order net)) (length (atModule f (suc i) (f i)))) → length (order net) < length (atModule f (rowCount calls) (f i))
+    over f i l h = omega (arith, ltb→lt (length (order net)) (length (atModule f (suc i) (f i))) h, count-grows f (order net) (f i) (suc i) (rowCount calls) l)

@@ -3,6 +3,7 @@
 --   room-passes         == when 4 passes
 --   verdict-passes      == the planner succeeds exactly where each of its checks passes
 --   verdict-success, verdict-eight == what it then tells, and what it tells where all but 8 passed
+--   verdict-told-eight  == where it tells 8, all but 8 passed
 --   plans, one-answer   == answer and buffer have the guarantee, and no others have it
 use mathlib.Core.Path.{_≡_, refl, sym, ap, _∙_}
 use mathlib.Core.Logic.{_⊎_, inl, inr, _↔_, Iff·trans, ⊎-elim}
@@ -20,17 +21,17 @@ use Rattle.shelf.specs.Rows.{rowCount, α, β, γ, moduleOf}
 use Rattle.shelf.specs.Light.{Lawful}
 use Rattle.calls.specs.declared.Verdict.{Verdict}
 use Rattle.calls.specs.Verdict.{success, _⨾_}
-use Rattle.calls.specs.VerdictLaws.{stops, goes-on, then-passes, refused-zero}
+use Rattle.calls.specs.VerdictLaws.{stops, goes-on, later-tells, then-passes, refused-zero, test-number}
 use Rattle.calls.specs.Table.{sizeChecks, callChecks, InOrder}
-use Rattle.calls.specs.TableLaws.{less-is, in-order-is, row-number}
+use Rattle.calls.specs.TableLaws.{less-is, in-order-is, size-number, row-number, call-number}
 use Rattle.choice.specs.Rule.{at}
 use Rattle.choice.specs.Count.{atModule}
 use Rattle.choice.specs.PlanLaws.{plan-fine, fits-all}
 use Rattle.choice.specs.Order.{order, order-distinct}
 use Rattle.planner.specs.declared.Planned.{Planned}
-use Rattle.planner.specs.Planner.{settingsRows, overfull, overfullRow, roomRefused, plannerVerdict, chosen, planAnswer, planBuffer, NoneOverfull, Plans}
+use Rattle.planner.specs.Planner.{settingsRows, overfull, overfullRow, roomRefused, plannerVerdict, chosen, planAnswer, planBuffer, NoneOverfull, SomeOverfull, Plans}
 use Rattle.planner.specs.SettingsLaws.{settings-length, settings-lawful, lawful-fine}
-use Rattle.planner.specs.Overfull.{overfull-passes, none-overfull-passes}
+use Rattle.planner.specs.Overfull.{overfull-passes, none-overfull-passes, some-overfull}
 
 pub room-passes : (calls : List ℕ) (room : ℕ) → (roomRefused calls room .number ≡ 0) ↔ (3 * rowCount calls ≤ room)
 unfolding roomRefused
@@ -76,6 +77,19 @@ module _ (net : Network) (calls : List ℕ) (room : ℕ) where
       let t = in-order-is net calls 0 0 .1 (table, omega arith) in
       goes-on (sizeChecks net (length calls) 0 0) _ (t .0) ∙ goes-on (roomRefused calls room) _ (room-passes calls room .1 l) ∙ goes-on (callChecks net calls) _ (t .1)
 
+  -- where it tells 8, all but 8 passed
+  pub verdict-told-eight : plannerVerdict net calls room .number ≡ 8
+      → (sizeChecks net (length calls) 0 0 .number ≡ 0) × (roomRefused calls room .number ≡ 0) × (callChecks net calls .number ≡ 0) × (overfullRow net calls .number ≡ 0 → ⊥)
+  unfolding plannerVerdict roomRefused success
+  verdict-told-eight e =
+      let a = later-tells 8 (sizeChecks net (length calls) 0 0) _ (size-number Other (λ q. omega arith) net (length calls) 0 0 (λ q. omega arith) (λ q. omega arith) (λ q. omega arith)) e in
+      let b = later-tells 8 (roomRefused calls room) _ (test-number Other 4 0 _ (λ q. omega arith) (λ q. omega arith)) (a .1) in
+      let c = later-tells 8 (callChecks net calls) _ (call-number Other (λ q. omega arith) net calls (λ q. omega arith) (λ q. omega arith) (λ q. omega arith)) (b .1) in
+      (a .0, b .0, c .0, λ z. omega (arith, sym (ap (λ (v : Verdict). v .number) (goes-on (overfullRow net calls) (success (rowCount calls)) z)) ∙ c .1))
+    where
+      Other : ℕ → Type 0
+      Other n = n ≡ 8 → ⊥
+
 -- 8 is all that the search for overfull rows can tell
 overfull-number : (net : Network) (calls : List ℕ) → (overfullRow net calls .number ≡ 0) ⊎ (overfullRow net calls .number ≡ 8)
 unfolding overfullRow
@@ -107,12 +121,11 @@ module _ (net : Network) (calls before after : List ℕ) (a : Planned) (answer :
       success-zero : success (rowCount calls) .number ≡ 0
       success-zero = refl
 
-  impossible : InOrder net calls → 3 * rowCount calls ≤ length before → (output : Bool) (v : ℕ)
-      → length (order net) < length (atModule (moduleOf calls output) (rowCount calls) v) → (a .number ≡ 8) × ((settings : List ℕ) → Lawful net calls settings → ⊥)
-  impossible table room output v over = (⊎-elim (λ z. absurd (full z)) told (overfull-number net calls), none-lawful)
+  refused : InOrder net calls → 3 * rowCount calls ≤ length before → SomeOverfull net calls → a .number ≡ 8
+  refused table room some = ⊎-elim (λ z. absurd (full z)) told (overfull-number net calls)
     where
       full : overfullRow net calls .number ≡ 0 → ⊥
-      full z = omega (arith, none-overfull-passes net calls .0 z output v)
+      full z = omega (arith, none-overfull-passes net calls .0 z (some .0) (some .1), some .2)
 
       told : overfullRow net calls .number ≡ 8 → a .number ≡ 8
       told e =
@@ -120,8 +133,18 @@ module _ (net : Network) (calls before after : List ℕ) (a : Planned) (answer :
           ∙ ap (λ (u : Verdict). u .number) (verdict-eight net calls (length before) table room ∙ stops (overfullRow net calls) (success (rowCount calls)) full)
           ∙ e
 
-      none-lawful : (settings : List ℕ) → Lawful net calls settings → ⊥
-      none-lawful settings h = full (overfull-passes net calls .1 (fits-all (α calls) (β calls) (order net) (γ settings) (rowCount calls) (lawful-fine net calls settings (own table) h)))
+  impossible : InOrder net calls → SomeOverfull net calls → (settings : List ℕ) → Lawful net calls settings → ⊥
+  impossible table some settings h =
+      let pass = overfull-passes net calls .1 (fits-all (α calls) (β calls) (order net) (γ settings) (rowCount calls) (lawful-fine net calls settings (own table) h)) in
+      omega (arith, none-overfull-passes net calls .0 pass (some .0) (some .1), some .2)
+
+  eight : (a .number ≡ 8) ↔ (InOrder net calls × (3 * rowCount calls ≤ length before) × SomeOverfull net calls)
+  eight = (
+    λ e.
+        let p = verdict-told-eight net calls (length before) (sym number-is ∙ e) in
+        (in-order-is net calls 0 0 .0 (p .0, p .2) .0, room-passes calls (length before) .0 (p .1), some-overfull net calls (p .3)),
+    λ h. refused (h .0) (h .1) (h .2),
+  )
 
   unchanged : (a .number ≡ 0 → ⊥) → (a .moved ≡ 0) × (after ≡ before)
   unfolding planAnswer planBuffer
@@ -134,7 +157,7 @@ module _ (net : Network) (calls before after : List ℕ) (a : Planned) (answer :
   tells-K z = ap (λ (p : Planned). p .row) answer ∙ ap (λ (v : Verdict). v .row) (verdict-success net calls (length before) (sym number-is ∙ z))
 
   pub plans : Plans net calls before after a
-  plans = record { answer = answer; buffer = buffer; owed = owed; impossible = impossible; unchanged = unchanged; tells-K = tells-K }
+  plans = record { answer = answer; buffer = buffer; owed = owed; eight = eight; impossible = impossible; unchanged = unchanged; tells-K = tells-K }
 
 -- two answers that satisfy the guarantee are the same, and so are the buffers
 pub one-answer : (net : Network) (calls before after after′ : List ℕ) (a a′ : Planned) → Plans net calls before after a → Plans net calls before after′ a′ → (a ≡ a′) × (after ≡ after′)

@@ -5,7 +5,7 @@
 use mathlib.Core.Path.{_≡_, _∙_}
 use mathlib.Core.List.{List}
 use Prim.Native.Nat.{ℕ, _+_, _*_, _-_, _≤_, _<_}
-use native.Mathlib.Nat.{mul-le-mul}
+use native.Mathlib.Nat.{le-trans, mul-le-mul}
 use native.Mathlib.Numerals.{add-one}
 use native.Mathlib.Omega.{arith}
 use Rattle.shelf.specs.declared.Network.{Network}
@@ -44,12 +44,12 @@ module _ (net : Network) (calls start : List ℕ) (h : Ready net calls start) (k
     unfolding planFrom
     next-moved = rw (add-one k, m, p .moved-is, e)
 
-    -- the count of moved calls stays small
-    pub moved-small : moved + more ≤ 1024 * 126
-    unfolding mostModules mostCalls
+    -- the count of moved calls stays small: for each of the calls, a chain of at most 2 * r - 2
+    pub moved-small : moved + more ≤ mostCalls * (2 * mostModules - 2)
     moved-small =
         let few : planFrom (α calls) (β calls) (order net) start (k + 1) .moved ≤ (k + 1) * (2 * net .r - 2) =
         plan-from-moved (α calls) (β calls) (order net) start (order-distinct net) (k + 1) (omega (arith, h .places)) (λ i q. h .fits i (omega arith)) (net .r)
         (λ i q. let w = h .table .inside i (omega arith) in (w .own-α, w .own-β)) in
-        let r = limits-are net .0 (h .table .limits) in
-        omega (arith, next-moved, h .table .few, mul-le-mul {n₁ = k + 1} {m₁ = 2 * net .r - 2} {n₂ = 1024} {m₂ = 126} (omega (arith, h .table .few)) (omega (arith, r .most-r)))
+        let rows : k + 1 ≤ mostCalls = omega (arith, h .table .few) in
+        let modules : 2 * net .r - 2 ≤ 2 * mostModules - 2 = omega (arith, limits-are net .0 (h .table .limits) .most-r) in
+        rw next-moved (le-trans few (mul-le-mul {n₁ = k + 1} {m₁ = 2 * net .r - 2} rows modules))

@@ -7,9 +7,10 @@
 --   plannerVerdict net calls room == number and row
 --   chosen net calls            == the centrals and the moved count, by the choice rule
 --   planAnswer, planBuffer      == the answer, and the output buffer afterwards
---   NoneOverfull net calls      == no module has more calls than there are centrals
+--   NoneOverfull, SomeOverfull  == no module, or some module, has more calls than there are centrals
 --   Plans net calls before after a == what the entry guarantees
 use mathlib.Core.Path.{_≡_}
+use mathlib.Core.Logic.{_↔_}
 use mathlib.Core.Bool.{Bool, cond, _||_}
 use mathlib.Core.List.{List, [], _∷_, _++_}
 use Prim.Native.Nat.{ℕ, zero, suc, _*_, _≤_, _<_}
@@ -73,15 +74,19 @@ planBuffer net calls before =
 abbrev pub NoneOverfull : Network → List ℕ → Type 0
 NoneOverfull net calls = (output : Bool) (v : ℕ) → length (atModule (moduleOf calls output) (rowCount calls) v) ≤ length (order net)
 
+abbrev pub SomeOverfull : Network → List ℕ → Type 0
+SomeOverfull net calls = (output : Bool) × (v : ℕ) × (length (order net) < length (atModule (moduleOf calls output) (rowCount calls) v))
+
 pub record Plans (net : Network) (calls before after : List ℕ) (a : Planned) : Type 0 where
   -- number, row and moved count, and every byte of the buffer, for every input
   pub answer : a ≡ planAnswer net calls (length before)
   pub buffer : after ≡ planBuffer net calls before
   -- "The planner yields accepted settings whenever no module has more calls than there are centrals"
   pub owed : InOrder net calls → 3 * rowCount calls ≤ length before → NoneOverfull net calls → (a .number ≡ 0) × Lawful net calls (take (3 * rowCount calls) after)
-  -- "when one has more it refuses, and then no settings exist that would be accepted"
-  pub impossible : InOrder net calls → 3 * rowCount calls ≤ length before → (output : Bool) (v : ℕ)
-      → length (order net) < length (atModule (moduleOf calls output) (rowCount calls) v) → (a .number ≡ 8) × ((settings : List ℕ) → Lawful net calls settings → ⊥)
+  -- "when one has more it refuses": with 8, and 8 is told of no other tables
+  pub eight : (a .number ≡ 8) ↔ (InOrder net calls × (3 * rowCount calls ≤ length before) × SomeOverfull net calls)
+  -- "and then no settings exist that would be accepted", whatever room is lent
+  pub impossible : InOrder net calls → SomeOverfull net calls → (settings : List ℕ) → Lawful net calls settings → ⊥
   -- a refused call has moved 0 and changes no byte
   pub unchanged : (a .number ≡ 0 → ⊥) → (a .moved ≡ 0) × (after ≡ before)
   -- "Success is 0, with K in the place of the row"

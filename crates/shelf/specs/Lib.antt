@@ -7,4 +7,3 @@ pub mod Light
 pub mod Arrival
 pub mod Collisions
 pub mod LawfulLaws
-pub mod Examples

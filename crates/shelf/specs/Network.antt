@@ -3,9 +3,12 @@
 --   withinLimits net   == n, m and r are within their limits; else refusal 1
 --   cycle net          == Λ, the cycle of both gratings; the wavelengths inside the shelf are those below it
 --   ownWavelength net x, ownCentral net γ == x is one of the shelf's own wavelengths, γ one of its own centrals
---   sized net          == what the constructor answers; `numberOf` is its number, and `Built` what it promises
+--   sized net          == what the constructor answers
+--   Constructed        == number, row and network of an answer, and toldBy those of each case of the constructor's
+--   Built net answer   == what the constructor guarantees
 use mathlib.Core.Path.{_≡_}
 use mathlib.Core.Bool.{Bool, cond, _&&_}
+use mathlib.Core.Option.{Option, none, some}
 use Prim.Native.Nat.{ℕ, max}
 use lib.Dec.{leb, ltb}
 use Rattle.shelf.specs.declared.Network.{Network}
@@ -49,15 +52,22 @@ ownWavelength net x = ltb x (cycle net)
 unfoldable pub ownCentral : Network → ℕ → Bool
 ownCentral net γ = ltb γ (net .m)
 
--- The constructor's answer. Of its two cases a network that is made is success, 0; the other is refusal 1, "n, m or r
--- outside its limits", and holds nothing.
+-- The constructor's answer: the network of these sizes, or 1, "n, m or r outside its limits".
 unfoldable pub sized : Network → Sized
 sized net = cond (withinLimits net) (Made net) Refused
 
-abbrev pub numberOf : Sized → ℕ
-numberOf (Made net) = 0
-numberOf Refused = 1
+-- "An answer is a number, a row". A network that is made is success, 0, and the row is 0, since there is no table; the other case is
+-- refusal 1 with row 0, and holds no network.
+pub record Constructed : Type 0 where
+  pub number : ℕ
+  pub row : ℕ
+  pub network : Option Network
+
+abbrev pub toldBy : Sized → Constructed
+toldBy (Made net) = record { number = 0; row = 0; network = some net }
+toldBy Refused = record { number = 1; row = 0; network = none }
 
 pub record Built (net : Network) (answer : Sized) : Type 0 where
   pub is-sized : answer ≡ sized net
-  pub number : numberOf answer ≡ cond (withinLimits net) 0 1
+  -- number, row and network, by the case of the answer
+  pub tells : toldBy answer ≡ cond (withinLimits net) (record { number = 0; row = 0; network = some net }) (record { number = 1; row = 0; network = none })

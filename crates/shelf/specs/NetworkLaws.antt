@@ -1,11 +1,14 @@
 -- Laws of the network's record. Floors above use the cycle, the shelf's own wavelengths and centrals by these alone.
 --   InLimits net       == n, m and r within their limits, one by one
+--   one-answer         == two answers of the constructor are the same, and tell the same number, row and network
+use mathlib.Core.Path.{_≡_, sym, _∙_}
 use mathlib.Core.Logic.{_↔_}
 use Prim.Native.Nat.{ℕ, _≤_, _<_}
 use native.Mathlib.Omega.{arith}
 use lib.Dec.{T, leb, leb→le, le→leb, ltb→lt, lt→ltb}
 use Rattle.shelf.specs.declared.Network.{Network}
-use Rattle.shelf.specs.Network.{mostChannels, mostCentrals, mostModules, within, withinLimits, cycle, ownWavelength, ownCentral}
+use Rattle.shelf.specs.declared.Sized.{Sized}
+use Rattle.shelf.specs.Network.{mostChannels, mostCentrals, mostModules, within, withinLimits, cycle, ownWavelength, ownCentral, toldBy, Built}
 use Rattle.shelf.specs.Every.{both-is}
 
 pub record InLimits (net : Network) : Type 0 where
@@ -61,3 +64,7 @@ own-wavelength-is net x = (λ h. ltb→lt x (cycle net) h, λ h. lt→ltb x (cyc
 pub own-central-below : (net : Network) (γ : ℕ) → T (ownCentral net γ) → γ < net .m
 unfolding ownCentral
 own-central-below net γ h = ltb→lt γ (net .m) h
+
+-- two answers that satisfy the constructor's guarantee are the same
+pub one-answer : (net : Network) (s s′ : Sized) → Built net s → Built net s′ → (s ≡ s′) × (toldBy s ≡ toldBy s′)
+one-answer net s s′ g h = (g .is-sized ∙ sym (h .is-sized), g .tells ∙ sym (h .tells))

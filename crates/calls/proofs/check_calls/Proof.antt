@@ -1,7 +1,6 @@
 -- `calls::check_calls` meets its contract: the first search that refuses is the answer.
 use mathlib.Core.Path.{sym, ap, _∙_}
 use native.Mathlib.Omega.{arith}
-use mathlib.Core.Bool.{true, false}
 use Rattle.calls.specs.declared.Verdict.{Verdict}
 use Rattle.calls.specs.VerdictLaws.{answer-stops, answer-goes-on}
 use Rattle.calls.specs.Table.{callChecks}
@@ -19,14 +18,14 @@ unfolding callChecks
 returns c = answer-stops _ (c .before .before .seek-outside .ensures) (c .if1 .taken)
 
 seek-repeat-requires : tie.Need-seek-repeat-requires
-seek-repeat-requires c κs = ((λ e. omega arith), inside-points _ _ false (c .before .before .before .before .pre) (ap (λ (v : Verdict). v .number) (sym (c .before .before .seek-outside .ensures)) ∙ c .if1 .left))
+seek-repeat-requires c κs = ((λ e. omega arith), inside-points _ _ _ (c .before .before .before .before .pre) (ap (λ (v : Verdict). v .number) (sym (c .before .before .seek-outside .ensures)) ∙ c .if1 .left))
 
 returns-2 : tie.Need-returns-2
 unfolding callChecks
 returns-2 c = answer-goes-on (c .before .before .before .before .before .seek-outside .ensures) (c .before .before .before .if1 .left) (answer-stops _ (c .before .before .seek-repeat .ensures ∙ inlets-are _) (c .if2 .taken))
 
 seek-repeat-requires-2 : tie.Need-seek-repeat-requires-2
-seek-repeat-requires-2 c κs = ((λ e. omega arith), inside-points _ _ true (c .before .before .before .before .before .before .before .pre) (ap (λ (v : Verdict). v .number) (sym (c .before .before .before .before .before .seek-outside .ensures)) ∙ c .before .before .before .if1 .left))
+seek-repeat-requires-2 c κs = ((λ e. omega arith), inside-points _ _ _ (c .before .before .before .before .before .before .before .pre) (ap (λ (v : Verdict). v .number) (sym (c .before .before .before .before .before .seek-outside .ensures)) ∙ c .before .before .before .if1 .left))
 
 returns-3 : tie.Need-returns-3
 unfolding callChecks

@@ -5,7 +5,7 @@ use native.Mathlib.Omega.{arith}
 use lib.ListN.{length-set}
 use Rattle.shelf.specs.Rows.{moduleOf}
 use Rattle.choice.specs.Rule.{at}
-use Rattle.choice.specs.Walk.{walked-none, walked-end, walked-on, walk-length}
+use Rattle.choice.specs.Walk.{walked-none, walked-end, walked-on, walked-few}
 use Prim.Native.Nat.{ℕ, _-_, _<_}
 use borrow.Fn.Kinds.{In}
 use borrow.Fn.PlainCycle.{Measures, is, falls, and}
@@ -147,7 +147,7 @@ chain-from-input-add-t16 : (t : ℕ) → chain-from-input-lts.Need-add-t16 (
   chain-from-output-below t,
   chain-from-output.Post,
 ) (chain-from-input-at t) chain-from-input.Post
-chain-from-input-add-t16 t c = let s = c .before .before .before .before .before .before .before .before .before .before .before .before .args in omega (arith, c .before .before .before .chain-from-output .ensures .moved, c .before .before .before .before .before .before .before .before .before .before .before .before .fits .left, c .before .before .before .before .before .before .before .before .before .if1 .left, walk-length (s .left - 1) (moduleOf (s .calls .now) true) (moduleOf (s .calls .now) false) (at (s .centrals .now)) (s .count) (c .before .before .before .before .before .module-at .result) (s .d) (s .c))
+chain-from-input-add-t16 t c = omega (arith, walked-few (c .before .before .before .chain-from-output .ensures), c .before .before .before .before .before .before .before .before .before .before .before .before .fits .left, c .before .before .before .before .before .before .before .before .before .if1 .left)
 
 chain-from-input-same-length-2 : (t : ℕ) → chain-from-input-lts.Need-same-length-2 (
   row-on-reads.Asked,
@@ -258,7 +258,7 @@ chain-from-output-add-t16 : (t : ℕ) → chain-from-output-lts.Need-add-t16 (
   chain-from-input-below t,
   chain-from-input.Post,
 ) (chain-from-output-at t) chain-from-output.Post
-chain-from-output-add-t16 t c = let s = c .before .before .before .before .before .before .before .before .before .before .before .before .args in omega (arith, c .before .before .before .chain-from-input .ensures .moved, c .before .before .before .before .before .before .before .before .before .before .before .before .fits .left, c .before .before .before .before .before .before .before .before .before .if1 .left, walk-length (s .left - 1) (moduleOf (s .calls .now) false) (moduleOf (s .calls .now) true) (at (s .centrals .now)) (s .count) (c .before .before .before .before .before .module-at .result) (s .d) (s .c))
+chain-from-output-add-t16 t c = omega (arith, walked-few (c .before .before .before .chain-from-input .ensures), c .before .before .before .before .before .before .before .before .before .before .before .before .fits .left, c .before .before .before .before .before .before .before .before .before .if1 .left)
 
 chain-from-output-same-length-2 : (t : ℕ) → chain-from-output-lts.Need-same-length-2 (
   row-on-reads.Asked,

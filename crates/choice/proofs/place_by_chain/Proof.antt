@@ -64,6 +64,9 @@ mul-chain-from-output : tie.Need-mul-chain-from-output
 unfolding mostModules
 mul-chain-from-output c = let l = limits-are _ .0 (c .before .before .before .before .before .before .before .before .before .before .before .before .pre .0 .limits) in omega (arith, l .most-r)
 
+sub-chain-from-output : tie.Need-sub-chain-from-output
+sub-chain-from-output c = let l = limits-are _ .0 (c .before .before .before .before .before .before .before .before .before .before .before .before .pre .0 .limits) in omega (arith, l .some-r)
+
 chain-from-output-requires : tie.Need-chain-from-output-requires
 chain-from-output-requires c κs = omega (arith, c .before .before .before .before .before .before .before .before .before .before .before .before .pre .0 .rows, c .before .before .before .before .before .before .before .before .before .before .before .before .pre .0 .row)
 
@@ -107,6 +110,7 @@ place-by-chain-spec =
     cast-chain-from-output
     cast-chain-from-output-2
     mul-chain-from-output
+    sub-chain-from-output
     chain-from-output-requires
     cast-centrals
     slice-write-centrals

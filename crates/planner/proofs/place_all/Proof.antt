@@ -5,7 +5,7 @@ use Prim.Native.Nat.{_≤_, _-_}
 use native.Mathlib.Nat.{le-antisymm}
 use native.Mathlib.Omega.{arith}
 use lib.ListN.{length}
-use Rattle.shelf.specs.Network.{mostModules, mostCentrals}
+use Rattle.shelf.specs.Network.{mostModules, mostCentrals, mostCalls}
 use Rattle.shelf.specs.Rows.{rowCount, α, β}
 use Rattle.choice.specs.Rule.{planFrom}
 use Rattle.choice.specs.PlanLaws.{plan-from-length}
@@ -35,7 +35,7 @@ unfolding rowCount
 place-requires c κs = placeable _ _ _ (c .before .before .before .before .before .before .pre) _ (c .before .before .loop-test .taken) _ _ (c .before .before .before .loop .inv .1) (c .before .before .before .loop .inv .3)
 
 add-moved : tie.Need-add-moved Inv-loop μ-loop
-unfolding rowCount
+unfolding rowCount mostCalls mostModules
 add-moved c = record { fits = omega (arith, moved-small _ _ _ (c .before .before .before .before .before .before .before .before .before .pre) _ (c .before .before .before .before .before .loop-test .taken) _ _ (c .before .before .before .before .before .before .loop .inv .1) (c .before .before .before .before .before .before .loop .inv .3) _ _ _ _ (c .before .before .before .before .before .before .loop .inv .2) (c .before .before .place .ensures)) }
 
 add-placed : tie.Need-add-placed Inv-loop μ-loop

@@ -39,8 +39,8 @@ numbers : (c : tie.After-shared-slice-known3 Inv-loop μ-loop)
     → (c .before .at .result .«input_module» < c .before .before .before .before .cycle .result)
     × (at (c .before .before .before .before .before .before .before .before .args .centrals .now) (c .before .before .before .loop .written) < c .before .before .before .before .cycle .result)
     × (c .before .at .result .«output_module» < c .before .before .before .before .cycle .result)
-    × (c .before .before .before .before .cycle .result ≤ 64)
-unfolding rowCount mostModules
+    × (c .before .before .before .before .cycle .result ≤ mostModules)
+unfolding rowCount
 numbers c =
     let l = c .before .before .loop-test .taken in
     let i = c .before .before .before .before .before .before .before .before .pre .inside _ l in
@@ -60,6 +60,7 @@ unfolding rowCount
 shared-slice-read-central c = omega (arith, c .before .before .before .before .before .before .before .before .pre .places)
 
 cast-central : tie.Need-cast-central Inv-loop μ-loop
+unfolding mostModules
 cast-central c = let n = numbers c in record { fits = omega arith }
 
 wavelength-between-requires : tie.Need-wavelength-between-requires Inv-loop μ-loop
@@ -69,12 +70,15 @@ wavelength-between-requires-2 : tie.Need-wavelength-between-requires-2 Inv-loop 
 wavelength-between-requires-2 c κs = let n = numbers (c .before) in (n .1, n .2)
 
 cast-write-row : tie.Need-cast-write-row Inv-loop μ-loop
+unfolding mostModules
 cast-write-row c = let n = numbers (c .before .before .before) in record { fits = omega (arith, c .before .before .wavelength-between .ensures, between-below (c .before .before .before .before .before .before .before .cycle .result) (omega arith) (c .before .before .before .before .at .result .«input_module») (at (c .before .before .before .before .before .before .before .before .before .before .before .args .centrals .now) (c .before .before .before .before .before .before .loop .written))) }
 
 cast-write-row-2 : tie.Need-cast-write-row-2 Inv-loop μ-loop
+unfolding mostModules
 cast-write-row-2 c = let n = numbers (c .before .before .before) in record { fits = omega arith }
 
 cast-write-row-3 : tie.Need-cast-write-row-3 Inv-loop μ-loop
+unfolding mostModules
 cast-write-row-3 c = let n = numbers (c .before .before .before) in record { fits = omega (arith, c .before .wavelength-between2 .ensures, between-below (c .before .before .before .before .before .before .before .cycle .result) (omega arith) (at (c .before .before .before .before .before .before .before .before .before .before .before .args .centrals .now) (c .before .before .before .before .before .before .loop .written)) (c .before .before .before .before .at .result .«output_module»)) }
 
 write-row-requires : tie.Need-write-row-requires Inv-loop μ-loop

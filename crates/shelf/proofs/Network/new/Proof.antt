@@ -10,11 +10,11 @@ within-limits-requires c κs = search needs
 
 returns : tie.Need-returns
 unfolding sized mostChannels mostCentrals mostModules mostCalls
-returns c = (record { is-sized = rw (sym (c .before .within-limits .ensures) ∙ c .if1 .taken); number = rw (sym (c .before .within-limits .ensures) ∙ c .if1 .taken) }, record { of-n = refl; of-m = refl; of-r = refl; of-K = refl })
+returns c = (record { is-sized = rw (sym (c .before .within-limits .ensures) ∙ c .if1 .taken); tells = rw (sym (c .before .within-limits .ensures) ∙ c .if1 .taken) }, record { of-n = refl; of-m = refl; of-r = refl; of-K = refl })
 
 returns-2 : tie.Need-returns-2
 unfolding sized mostChannels mostCentrals mostModules mostCalls
-returns-2 c = (record { is-sized = rw (sym (c .before .within-limits .ensures) ∙ c .if1 .left); number = rw (sym (c .before .within-limits .ensures) ∙ c .if1 .left) }, record { of-n = refl; of-m = refl; of-r = refl; of-K = refl })
+returns-2 c = (record { is-sized = rw (sym (c .before .within-limits .ensures) ∙ c .if1 .left); tells = rw (sym (c .before .within-limits .ensures) ∙ c .if1 .left) }, record { of-n = refl; of-m = refl; of-r = refl; of-K = refl })
 
 pub new-spec : {M : Type 1} → statement M
 new-spec = tie.close (tie.spec within-limits-requires returns returns-2)
