@@ -1,1 +1,3 @@
 pub mod Bench
+pub mod BenchHolds
+pub mod Program

@@ -1,38 +1,145 @@
-// The bench table of the scope of work: twelve cases in nineteen parts, written here once. The list is proved to say what the
-// written rules answer, and each part is answered by the compiled entries and compared with the list.
+// The bench table of the scope of work, answered by the compiled entries. What the table says is a definition (specs/Bench.antt), proved of
+// the written rules by one statement over its list; the table below is proved to be that list, and each of its parts is given to the compiled
+// entry and compared with it.
 ghost use mathlib.Core.Path.{_≡_};
 ghost use mathlib.Core.List.{map};
-ghost use Rattle.bench.specs.Bench.{ruled, written};
+ghost use Rattle.bench.specs.Bench.{benchTable};
+ghost use Rattle.bench.specs.Program.{partOf};
 use libc::STDOUT_FILENO;
 use shelf::Network;
 
-// The parts of the bench table; the most rows that one of them has, and the most room.
+// The parts of the bench table; the most rows that one of them has, and the bytes of the buffer that rooms are lent from.
 const PARTS: usize = 19;
 
 const MOST_ROWS: usize = 4;
 
 const MOST_ROOM: usize = 16;
 
-// Who answers.
-pub enum Entry {
-    Plan,
-    Accept,
+// What each byte of that buffer is before: no settings of the table have such a byte.
+const BLANK: u8 = 9;
+
+// One part: ten numbers, the calls, and last the bytes of the buffer afterwards, or for acceptance the settings that it is given.
+pub struct Part {
+    pub head: [u8; 10],
+    pub calls: [u8; 4 * MOST_ROWS],
+    pub bytes: [u8; MOST_ROOM],
 }
 
-// One part: the number of its case and who answers; the network and the calls, `count` rows of them; and the answer. Settings are those
-// that are to be written, or those that acceptance is given. Room is what the planner is lent.
-pub struct Case {
-    pub case: usize,
-    pub entry: Entry,
-    pub net: Network,
-    pub count: usize,
-    pub calls: [u8; 4 * MOST_ROWS],
-    pub settings: [u8; 3 * MOST_ROWS],
-    pub room: usize,
-    pub number: usize,
-    pub row: usize,
-    pub moved: usize,
-}
+// The ten numbers: the case, who answers (0 the planner, 1 acceptance), n, m, r, K, the bytes of room that are lent, and of the answer number, row
+// and moved count.
+const CASE_AT: usize = 0;
+
+const ENTRY_AT: usize = 1;
+
+const SIZES_AT: usize = 2;
+
+const COUNT_AT: usize = 5;
+
+const ROOM_AT: usize = 6;
+
+const NUMBER_AT: usize = 7;
+
+const ROW_AT: usize = 8;
+
+const MOVED_AT: usize = 9;
+
+const TABLE: [Part; PARTS] = [
+    Part {
+        head: [1, 0, 1, 1, 1, 0, 0, 0, 0, 0],
+        calls: [0, 0, 0, 0, 0, 0, 0, 0, 0, 0, 0, 0, 0, 0, 0, 0],
+        bytes: [9, 9, 9, 9, 9, 9, 9, 9, 9, 9, 9, 9, 9, 9, 9, 9],
+    },
+    Part {
+        head: [2, 0, 1, 1, 1, 1, 3, 0, 1, 0],
+        calls: [0, 0, 0, 0, 0, 0, 0, 0, 0, 0, 0, 0, 0, 0, 0, 0],
+        bytes: [0, 0, 0, 9, 9, 9, 9, 9, 9, 9, 9, 9, 9, 9, 9, 9],
+    },
+    Part {
+        head: [3, 0, 2, 2, 2, 4, 16, 0, 4, 0],
+        calls: [0, 0, 0, 0, 1, 0, 1, 0, 1, 1, 0, 1, 0, 1, 1, 1],
+        bytes: [0, 0, 0, 1, 0, 1, 0, 1, 1, 1, 1, 0, 9, 9, 9, 9],
+    },
+    Part {
+        head: [4, 0, 2, 2, 3, 4, 12, 0, 4, 2],
+        calls: [0, 0, 0, 0, 0, 1, 1, 0, 1, 0, 2, 0, 1, 1, 1, 1],
+        bytes: [1, 1, 1, 0, 0, 1, 1, 0, 2, 2, 1, 2, 9, 9, 9, 9],
+    },
+    Part {
+        head: [5, 0, 2, 1, 1, 2, 6, 8, 1, 0],
+        calls: [0, 0, 0, 0, 0, 1, 0, 1, 0, 0, 0, 0, 0, 0, 0, 0],
+        bytes: [9, 9, 9, 9, 9, 9, 9, 9, 9, 9, 9, 9, 9, 9, 9, 9],
+    },
+    Part {
+        head: [5, 0, 2, 2, 1, 2, 6, 0, 2, 0],
+        calls: [0, 0, 0, 0, 0, 1, 0, 1, 0, 0, 0, 0, 0, 0, 0, 0],
+        bytes: [0, 0, 0, 1, 1, 1, 9, 9, 9, 9, 9, 9, 9, 9, 9, 9],
+    },
+    Part {
+        head: [6, 0, 2, 2, 1, 2, 6, 6, 1, 0],
+        calls: [0, 0, 0, 0, 0, 0, 0, 1, 0, 0, 0, 0, 0, 0, 0, 0],
+        bytes: [9, 9, 9, 9, 9, 9, 9, 9, 9, 9, 9, 9, 9, 9, 9, 9],
+    },
+    Part {
+        head: [7, 0, 2, 2, 1, 2, 6, 7, 1, 0],
+        calls: [0, 0, 0, 0, 0, 1, 0, 0, 0, 0, 0, 0, 0, 0, 0, 0],
+        bytes: [9, 9, 9, 9, 9, 9, 9, 9, 9, 9, 9, 9, 9, 9, 9, 9],
+    },
+    Part {
+        head: [8, 0, 1, 1, 1, 1, 3, 5, 0, 0],
+        calls: [1, 0, 0, 0, 0, 0, 0, 0, 0, 0, 0, 0, 0, 0, 0, 0],
+        bytes: [9, 9, 9, 9, 9, 9, 9, 9, 9, 9, 9, 9, 9, 9, 9, 9],
+    },
+    Part {
+        head: [9, 1, 2, 2, 2, 1, 0, 0, 1, 0],
+        calls: [0, 0, 1, 0, 0, 0, 0, 0, 0, 0, 0, 0, 0, 0, 0, 0],
+        bytes: [1, 1, 0, 0, 0, 0, 0, 0, 0, 0, 0, 0, 0, 0, 0, 0],
+    },
+    Part {
+        head: [9, 1, 2, 2, 2, 1, 0, 9, 0, 0],
+        calls: [0, 0, 1, 0, 0, 0, 0, 0, 0, 0, 0, 0, 0, 0, 0, 0],
+        bytes: [2, 1, 0, 0, 0, 0, 0, 0, 0, 0, 0, 0, 0, 0, 0, 0],
+    },
+    Part {
+        head: [9, 1, 2, 2, 2, 1, 0, 10, 0, 0],
+        calls: [0, 0, 1, 0, 0, 0, 0, 0, 0, 0, 0, 0, 0, 0, 0, 0],
+        bytes: [1, 0, 0, 0, 0, 0, 0, 0, 0, 0, 0, 0, 0, 0, 0, 0],
+    },
+    Part {
+        head: [9, 1, 2, 2, 2, 1, 0, 11, 0, 0],
+        calls: [0, 0, 1, 0, 0, 0, 0, 0, 0, 0, 0, 0, 0, 0, 0, 0],
+        bytes: [1, 1, 1, 0, 0, 0, 0, 0, 0, 0, 0, 0, 0, 0, 0, 0],
+    },
+    Part {
+        head: [10, 1, 2, 2, 2, 2, 0, 12, 1, 0],
+        calls: [0, 0, 0, 0, 0, 1, 1, 0, 0, 0, 0, 0, 0, 0, 0, 0],
+        bytes: [0, 0, 0, 0, 0, 1, 0, 0, 0, 0, 0, 0, 0, 0, 0, 0],
+    },
+    Part {
+        head: [11, 1, 2, 2, 2, 2, 0, 13, 1, 0],
+        calls: [0, 0, 0, 0, 1, 0, 0, 1, 0, 0, 0, 0, 0, 0, 0, 0],
+        bytes: [0, 0, 0, 1, 0, 0, 0, 0, 0, 0, 0, 0, 0, 0, 0, 0],
+    },
+    Part {
+        head: [12, 0, 1, 32, 1, 0, 0, 0, 0, 0],
+        calls: [0, 0, 0, 0, 0, 0, 0, 0, 0, 0, 0, 0, 0, 0, 0, 0],
+        bytes: [9, 9, 9, 9, 9, 9, 9, 9, 9, 9, 9, 9, 9, 9, 9, 9],
+    },
+    Part {
+        head: [12, 0, 1, 33, 1, 0, 0, 1, 0, 0],
+        calls: [0, 0, 0, 0, 0, 0, 0, 0, 0, 0, 0, 0, 0, 0, 0, 0],
+        bytes: [9, 9, 9, 9, 9, 9, 9, 9, 9, 9, 9, 9, 9, 9, 9, 9],
+    },
+    Part {
+        head: [12, 0, 2, 2, 2, 4, 12, 0, 4, 0],
+        calls: [0, 0, 0, 0, 1, 0, 1, 0, 1, 1, 0, 1, 0, 1, 1, 1],
+        bytes: [0, 0, 0, 1, 0, 1, 0, 1, 1, 1, 1, 0, 9, 9, 9, 9],
+    },
+    Part {
+        head: [12, 0, 2, 2, 2, 4, 11, 4, 0, 0],
+        calls: [0, 0, 0, 0, 1, 0, 1, 0, 1, 1, 0, 1, 0, 1, 1, 1],
+        bytes: [9, 9, 9, 9, 9, 9, 9, 9, 9, 9, 9, 9, 9, 9, 9, 9],
+    },
+];
 
 fn main() {
     let parts = bench_table();
@@ -43,246 +150,18 @@ fn main() {
     }
 }
 
-// The bench table, as the written rules have it.
-fn bench_table() -> [Case; PARTS]
-    ensures { λ parts. ⌜ map ruled parts ≡ map written parts ⌝ }
+// The bench table.
+fn bench_table() -> [Part; PARTS]
+    ensures { λ parts. ⌜ map partOf parts ≡ benchTable ⌝ }
 {
-    [
-        Case {
-            case: 1,
-            entry: Entry::Plan,
-            net: Network { n: 1, m: 1, r: 1 },
-            count: 0,
-            calls: [0; 16],
-            settings: [0; 12],
-            room: 0,
-            number: 0,
-            row: 0,
-            moved: 0,
-        },
-        Case {
-            case: 2,
-            entry: Entry::Plan,
-            net: Network { n: 1, m: 1, r: 1 },
-            count: 1,
-            calls: [0, 0, 0, 0, 0, 0, 0, 0, 0, 0, 0, 0, 0, 0, 0, 0],
-            settings: [0, 0, 0, 0, 0, 0, 0, 0, 0, 0, 0, 0],
-            room: 3,
-            number: 0,
-            row: 1,
-            moved: 0,
-        },
-        Case {
-            case: 3,
-            entry: Entry::Plan,
-            net: Network { n: 2, m: 2, r: 2 },
-            count: 4,
-            calls: [0, 0, 0, 0, 1, 0, 1, 0, 1, 1, 0, 1, 0, 1, 1, 1],
-            settings: [0, 0, 0, 1, 0, 1, 0, 1, 1, 1, 1, 0],
-            room: 16,
-            number: 0,
-            row: 4,
-            moved: 0,
-        },
-        Case {
-            case: 4,
-            entry: Entry::Plan,
-            net: Network { n: 2, m: 2, r: 3 },
-            count: 4,
-            calls: [0, 0, 0, 0, 0, 1, 1, 0, 1, 0, 2, 0, 1, 1, 1, 1],
-            settings: [1, 1, 1, 0, 0, 1, 1, 0, 2, 2, 1, 2],
-            room: 12,
-            number: 0,
-            row: 4,
-            moved: 2,
-        },
-        Case {
-            case: 5,
-            entry: Entry::Plan,
-            net: Network { n: 2, m: 1, r: 1 },
-            count: 2,
-            calls: [0, 0, 0, 0, 0, 1, 0, 1, 0, 0, 0, 0, 0, 0, 0, 0],
-            settings: [0; 12],
-            room: 6,
-            number: 8,
-            row: 1,
-            moved: 0,
-        },
-        Case {
-            case: 5,
-            entry: Entry::Plan,
-            net: Network { n: 2, m: 2, r: 1 },
-            count: 2,
-            calls: [0, 0, 0, 0, 0, 1, 0, 1, 0, 0, 0, 0, 0, 0, 0, 0],
-            settings: [0, 0, 0, 1, 1, 1, 0, 0, 0, 0, 0, 0],
-            room: 6,
-            number: 0,
-            row: 2,
-            moved: 0,
-        },
-        Case {
-            case: 6,
-            entry: Entry::Plan,
-            net: Network { n: 2, m: 2, r: 1 },
-            count: 2,
-            calls: [0, 0, 0, 0, 0, 0, 0, 1, 0, 0, 0, 0, 0, 0, 0, 0],
-            settings: [0; 12],
-            room: 6,
-            number: 6,
-            row: 1,
-            moved: 0,
-        },
-        Case {
-            case: 7,
-            entry: Entry::Plan,
-            net: Network { n: 2, m: 2, r: 1 },
-            count: 2,
-            calls: [0, 0, 0, 0, 0, 1, 0, 0, 0, 0, 0, 0, 0, 0, 0, 0],
-            settings: [0; 12],
-            room: 6,
-            number: 7,
-            row: 1,
-            moved: 0,
-        },
-        Case {
-            case: 8,
-            entry: Entry::Plan,
-            net: Network { n: 1, m: 1, r: 1 },
-            count: 1,
-            calls: [1, 0, 0, 0, 0, 0, 0, 0, 0, 0, 0, 0, 0, 0, 0, 0],
-            settings: [0; 12],
-            room: 3,
-            number: 5,
-            row: 0,
-            moved: 0,
-        },
-        Case {
-            case: 9,
-            entry: Entry::Accept,
-            net: Network { n: 2, m: 2, r: 2 },
-            count: 1,
-            calls: [0, 0, 1, 0, 0, 0, 0, 0, 0, 0, 0, 0, 0, 0, 0, 0],
-            settings: [1, 1, 0, 0, 0, 0, 0, 0, 0, 0, 0, 0],
-            room: 0,
-            number: 0,
-            row: 1,
-            moved: 0,
-        },
-        Case {
-            case: 9,
-            entry: Entry::Accept,
-            net: Network { n: 2, m: 2, r: 2 },
-            count: 1,
-            calls: [0, 0, 1, 0, 0, 0, 0, 0, 0, 0, 0, 0, 0, 0, 0, 0],
-            settings: [2, 1, 0, 0, 0, 0, 0, 0, 0, 0, 0, 0],
-            room: 0,
-            number: 9,
-            row: 0,
-            moved: 0,
-        },
-        Case {
-            case: 9,
-            entry: Entry::Accept,
-            net: Network { n: 2, m: 2, r: 2 },
-            count: 1,
-            calls: [0, 0, 1, 0, 0, 0, 0, 0, 0, 0, 0, 0, 0, 0, 0, 0],
-            settings: [1, 0, 0, 0, 0, 0, 0, 0, 0, 0, 0, 0],
-            room: 0,
-            number: 10,
-            row: 0,
-            moved: 0,
-        },
-        Case {
-            case: 9,
-            entry: Entry::Accept,
-            net: Network { n: 2, m: 2, r: 2 },
-            count: 1,
-            calls: [0, 0, 1, 0, 0, 0, 0, 0, 0, 0, 0, 0, 0, 0, 0, 0],
-            settings: [1, 1, 1, 0, 0, 0, 0, 0, 0, 0, 0, 0],
-            room: 0,
-            number: 11,
-            row: 0,
-            moved: 0,
-        },
-        Case {
-            case: 10,
-            entry: Entry::Accept,
-            net: Network { n: 2, m: 2, r: 2 },
-            count: 2,
-            calls: [0, 0, 0, 0, 0, 1, 1, 0, 0, 0, 0, 0, 0, 0, 0, 0],
-            settings: [0, 0, 0, 0, 0, 1, 0, 0, 0, 0, 0, 0],
-            room: 0,
-            number: 12,
-            row: 1,
-            moved: 0,
-        },
-        Case {
-            case: 11,
-            entry: Entry::Accept,
-            net: Network { n: 2, m: 2, r: 2 },
-            count: 2,
-            calls: [0, 0, 0, 0, 1, 0, 0, 1, 0, 0, 0, 0, 0, 0, 0, 0],
-            settings: [0, 0, 0, 1, 0, 0, 0, 0, 0, 0, 0, 0],
-            room: 0,
-            number: 13,
-            row: 1,
-            moved: 0,
-        },
-        Case {
-            case: 12,
-            entry: Entry::Plan,
-            net: Network { n: 1, m: 32, r: 1 },
-            count: 0,
-            calls: [0; 16],
-            settings: [0; 12],
-            room: 0,
-            number: 0,
-            row: 0,
-            moved: 0,
-        },
-        Case {
-            case: 12,
-            entry: Entry::Plan,
-            net: Network { n: 1, m: 33, r: 1 },
-            count: 0,
-            calls: [0; 16],
-            settings: [0; 12],
-            room: 0,
-            number: 1,
-            row: 0,
-            moved: 0,
-        },
-        Case {
-            case: 12,
-            entry: Entry::Plan,
-            net: Network { n: 2, m: 2, r: 2 },
-            count: 4,
-            calls: [0, 0, 0, 0, 1, 0, 1, 0, 1, 1, 0, 1, 0, 1, 1, 1],
-            settings: [0, 0, 0, 1, 0, 1, 0, 1, 1, 1, 1, 0],
-            room: 12,
-            number: 0,
-            row: 4,
-            moved: 0,
-        },
-        Case {
-            case: 12,
-            entry: Entry::Plan,
-            net: Network { n: 2, m: 2, r: 2 },
-            count: 4,
-            calls: [0, 0, 0, 0, 1, 0, 1, 0, 1, 1, 0, 1, 0, 1, 1, 1],
-            settings: [0; 12],
-            room: 11,
-            number: 4,
-            row: 0,
-            moved: 0,
-        },
-    ]
+    TABLE
 }
 
 // Prints the number of a part's case, and whether the compiled entry answers as it is written.
-fn show(part: Case) {
+fn show(part: Part) {
+    let head = part.head;
     io::write_all(STDOUT_FILENO, b"case ");
-    io::print_decimal(STDOUT_FILENO, part.case as u64);
+    io::print_decimal(STDOUT_FILENO, head[CASE_AT] as u64);
     if is_answered(part) {
         io::write_all(STDOUT_FILENO, b" as written\n");
     } else {
@@ -291,27 +170,18 @@ fn show(part: Case) {
 }
 
 // Whether the compiled entry answers a part as it is written. A part with more rows than there is place for is not answered.
-fn is_answered(part: Case) -> bool {
-    if MOST_ROWS < part.count {
+fn is_answered(part: Part) -> bool {
+    let head = part.head;
+    let calls = part.calls;
+    let bytes = part.bytes;
+    let count = shelf::byte_at(&head, COUNT_AT);
+    if MOST_ROWS < count {
         return false;
     }
-    let calls = part.calls;
-    let settings = part.settings;
-    let mut room = [255u8; MOST_ROOM];
-    let entry = part.entry;
-    match entry {
-        Entry::Plan => is_planned(
-            part,
-            front(&calls, 4 * part.count),
-            front(&settings, 3 * part.count),
-            &mut room,
-        ),
-        Entry::Accept => is_accepted(
-            part,
-            front(&calls, 4 * part.count),
-            front(&settings, 3 * part.count),
-        ),
+    if head[ENTRY_AT] == 0 {
+        return is_planned(&head, front(&calls, 4 * count), &bytes);
     }
+    is_accepted(&head, front(&calls, 4 * count), front(&bytes, 3 * count))
 }
 
 // The first bytes, as many as `end`, or all where there are fewer.
@@ -322,34 +192,46 @@ fn front<'a>(bytes: &'a [u8], end: usize) -> &'a [u8] {
     &bytes[..end]
 }
 
-// Whether the planner, given these calls and as much room as the part says, answers as it is written and writes these settings.
-fn is_planned(part: Case, calls: &[u8], settings: &[u8], room: &mut [u8]) -> bool {
-    let room_end = part.room;
-    if room.len() < room_end {
-        return false;
+// The network of a part.
+fn network_of(head: &[u8; 10]) -> Network {
+    Network {
+        n: shelf::byte_at(head, SIZES_AT),
+        m: shelf::byte_at(head, SIZES_AT + 1),
+        r: shelf::byte_at(head, SIZES_AT + 2),
     }
-    let lent = &mut room[..room_end];
-    let answer = planner::plan(part.net, calls, lent);
-    if answer.number != part.number {
-        return false;
-    }
-    if answer.row != part.row {
-        return false;
-    }
-    if answer.moved != part.moved {
-        return false;
-    }
-    if answer.number != 0 {
-        return true;
-    }
-    check::same(front(lent, settings.len()), settings)
 }
 
-// Whether acceptance, given these calls and settings, answers as it is written.
-fn is_accepted(part: Case, calls: &[u8], settings: &[u8]) -> bool {
-    let answer = acceptance::accept(part.net, calls, settings);
-    if answer.number != part.number {
+// Whether the planner, given these calls and as much room as the part says, answers as it is written and leaves every byte of the buffer as it is
+// written: those of the room, of a refusal too, and those beyond what is lent.
+fn is_planned(head: &[u8; 10], calls: &[u8], after: &[u8; MOST_ROOM]) -> bool {
+    let room_end = shelf::byte_at(head, ROOM_AT);
+    if MOST_ROOM < room_end {
         return false;
     }
-    answer.row == part.row
+    let mut buffer = [BLANK; MOST_ROOM];
+    let answer = planner::plan(network_of(head), calls, &mut buffer[..room_end]);
+    if answer.number != shelf::byte_at(head, NUMBER_AT) {
+        return false;
+    }
+    if answer.row != shelf::byte_at(head, ROW_AT) {
+        return false;
+    }
+    if answer.moved != shelf::byte_at(head, MOVED_AT) {
+        return false;
+    }
+    is_same(&buffer, after)
+}
+
+// Whether two buffers hold the same bytes.
+fn is_same(a: &[u8; MOST_ROOM], b: &[u8; MOST_ROOM]) -> bool {
+    check::same(a, b)
+}
+
+// Whether acceptance, given these calls and settings, answers as it is written. It is lent nothing that it could write.
+fn is_accepted(head: &[u8; 10], calls: &[u8], settings: &[u8]) -> bool {
+    let answer = acceptance::accept(network_of(head), calls, settings);
+    if answer.number != shelf::byte_at(head, NUMBER_AT) {
+        return false;
+    }
+    answer.row == shelf::byte_at(head, ROW_AT)
 }

@@ -1,23 +1,12 @@
--- The bench table: what the rules say of each part is what is written, computed by the checker.
+-- The program's table is the bench table, part by part: computed by the checker.
 use Rattle.bench.proofs.bench_table.Statement.{statement}
 use Rattle.bench.proofs.bench_table.Tie as tie
 use mathlib.Core.Path.{refl}
-use Rattle.grating.specs.Grating.{exitPort, wavelengthBetween, remainder}
-use Rattle.shelf.specs.Network.{mostChannels, mostCentrals, mostModules, mostCalls, within, withinLimits, cycle, ownWavelength, ownCentral}
-use Rattle.shelf.specs.Rows.{rowCount, α, ω, β, ω', x, γ, y}
-use Rattle.shelf.specs.Every.{someBelow}
-use Rattle.shelf.specs.Light.{rowAt, owned}
-use Rattle.calls.specs.Verdict.{success, passed, refusedIf, _⨾_, seekRows}
-use Rattle.calls.specs.Table.{badSizes, badLengths, tooManyCalls, outside, usedEarlier, outsideRow, inletTwice, outletTwice, sizeChecks, callChecks}
-use Rattle.acceptance.specs.Acceptance.{lightVerdict, rowVerdict, unlawfulRow, acceptance}
-use Rattle.choice.specs.Rule.{firstBelow, firstOf, isNone, chain, exchange, exchanged, byChain, step, planFrom, plan}
-use Rattle.choice.specs.Search.{rowsBelow}
-use Rattle.choice.specs.Order.{upFrom, order}
-use Rattle.planner.specs.Planner.{settingsRows, overfull, overfullRow, roomRefused, plannerVerdict, chosen, planAnswer, planBuffer}
-use Rattle.bench.specs.Bench.{callsOf, settingsOf, answered, written, byPlanner, byAcceptance, ruledBy, ruled}
+use Rattle.bench.specs.Bench.{call, setting, sizes, blank, plans, accepts, callsOf3, settingsOf3, benchTable}
+use Rattle.bench.specs.Program.{isPlan, countOf, roomOf, partOf}
 
 returns : tie.Need-returns
-unfolding exitPort wavelengthBetween remainder mostChannels mostCentrals mostModules mostCalls within withinLimits cycle ownWavelength ownCentral rowCount α ω β ω' x γ y someBelow rowAt owned success passed refusedIf _⨾_ seekRows badSizes badLengths tooManyCalls outside usedEarlier outsideRow inletTwice outletTwice sizeChecks callChecks lightVerdict rowVerdict unlawfulRow acceptance firstBelow firstOf isNone chain exchange exchanged byChain step planFrom plan rowsBelow upFrom order settingsRows overfull overfullRow roomRefused plannerVerdict chosen planAnswer planBuffer callsOf settingsOf answered written byPlanner byAcceptance ruledBy ruled
+unfolding call setting sizes blank plans accepts callsOf3 settingsOf3 benchTable isPlan countOf roomOf partOf
 returns c = refl
 
 pub bench-table-spec : {M : Type 1} → statement M
