@@ -4,7 +4,7 @@ ghost use Rattle.acceptance.specs.Acceptance.{Accepts};
 ghost use Rattle.planner.specs.Planner.{Plans};
 ghost use Rattle.planfile.specs.File.{callsOnly, planned};
 ghost use Rattle.planfile.specs.Reader.{Reads};
-ghost use Rattle.planfile.specs.Writer.{Writes};
+ghost use Rattle.planwriter.specs.Writer.{Writes};
 use calls::Verdict;
 use planfile::Told;
 use planner::Planned;
@@ -45,7 +45,7 @@ pub extern "C" fn bolikwaru_write_calls(
 ) -> Verdict
     ensures { λ v. ⌜ Writes callsOnly net (now (note .entry)) (now (calls .entry)) (now (settings .entry)) (now (out .entry)) (now (out .exit)) v ⌝ }
 {
-    planfile::write_calls(net, note, calls, settings, out)
+    planwriter::write_calls(net, note, calls, settings, out)
 }
 
 // A planned file, at the front of `out`.
@@ -59,5 +59,5 @@ pub extern "C" fn bolikwaru_write_planned(
 ) -> Verdict
     ensures { λ v. ⌜ Writes planned net (now (note .entry)) (now (calls .entry)) (now (settings .entry)) (now (out .entry)) (now (out .exit)) v ⌝ }
 {
-    planfile::write_planned(net, note, calls, settings, out)
+    planwriter::write_planned(net, note, calls, settings, out)
 }

@@ -2,4 +2,3 @@ pub mod Text
 pub mod Writing
 pub mod TextLaws
 pub mod Listing
-pub mod Examples

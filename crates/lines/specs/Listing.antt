@@ -1,12 +1,17 @@
 -- From what the reader tells and what the planner answers to the text of the listing: for the code of the entry.
 --   Held file told == the places that a whole read tells follow one another within the file
+--   told-refused, told-planned, told-calls == what is printed where the reader refuses, of a planned file, and of one of calls only
+--   long-listing, told-listing == the listing of a file that is too long, and of any other
+--   refused-calls, placed-calls == what is printed of calls where the planner refuses, and where it places them
+--   listed-length  == the buffer keeps its length
+--   one-answer     == two answers that satisfy the entry's guarantee are the same
 use mathlib.Core.Path.{_≡_, sym, ap, _∙_}
 use mathlib.Core.List.{List}
-use Prim.Native.Nat.{ℕ, _+_, _*_, _≤_}
+use Prim.Native.Nat.{ℕ, _+_, _*_, _≤_, _<_}
 use native.Mathlib.Omega.{arith}
-use lib.ListN.{length, take, drop}
+use lib.ListN.{length, take, drop, length-append, length-drop}
 use lib.Seq.{take-at}
-use borrow.Author.Tests.{eq-eqb, ne-eqb}
+use borrow.Author.Tests.{eq-eqb, ne-eqb, lt-ltb, le-ltb}
 use Rattle.shelf.specs.declared.Network.{Network}
 use Rattle.shelf.specs.Network.{cycle, mostCalls}
 use Rattle.shelf.specs.Rows.{rowCount}
@@ -15,11 +20,11 @@ use Rattle.planner.specs.declared.Planned.{Planned}
 use Rattle.planner.specs.Planner.{settingsRows, plannerVerdict, chosen, planAnswer, planBuffer, Plans}
 use Rattle.planner.specs.SettingsLaws.{settings-length}
 use Rattle.planfile.specs.declared.Told.{Told}
-use Rattle.planfile.specs.File.{planned}
+use Rattle.planfile.specs.File.{planned, longestFile, front}
 use Rattle.planfile.specs.FileLaws.{planned-distance, settings-most, length-part, rows-part}
 use Rattle.planfile.specs.Reader.{trailerAt, layoutOf, wholeTold, readAnswer, callsIn, settingsIn, netOf}
 use Rattle.planfile.specs.ReaderLaws.{laid-out, reader-passes, whole-answer, answer-passes}
-use Rattle.lines.specs.Text.{decimal, refusedText, tableText, plannedText, callsText, toldText, listing}
+use Rattle.lines.specs.Text.{decimal, tooLongText, refusedText, tableText, plannedText, callsText, toldText, listing}
 use Rattle.lines.specs.Writing.{Adds, Lists, HasRows, adds-same, adds-front}
 
 pub record Held (file : List ℕ) (told : Told) : Type 0 where
@@ -31,9 +36,9 @@ pub record Held (file : List ℕ) (told : Told) : Type 0 where
 
 module _ (file : List ℕ) (told : Told) (e : told ≡ readAnswer file) where
   -- a refused read
-  pub refused-listing : (told .number ≡ 0 → ⊥) → refusedText (told .number) (told .row) ≡ listing file
-  unfolding listing toldText
-  refused-listing n = rw (← e, ne-eqb (told .number) 0 n)
+  pub told-refused : (told .number ≡ 0 → ⊥) → refusedText (told .number) (told .row) ≡ toldText file (readAnswer file)
+  unfolding toldText
+  told-refused n = rw (← e, ne-eqb (told .number) 0 n)
 
   module _ (z : told .number ≡ 0) where
     pub held : Held file told
@@ -67,18 +72,33 @@ module _ (file : List ℕ) (told : Told) (e : told ≡ readAnswer file) where
         settings-length = omega (arith, calls-count, held .settings-end k, length-part file (told .«settings_at») (trailerAt file) (held .inside));
       }
 
-      pub planned-listing : plannedText (netOf told) (callsIn file told) (settingsIn file told) ≡ listing file
-      unfolding listing toldText
-      planned-listing = rw (← e, eq-eqb (told .number) 0 z, eq-eqb (told .kind) planned k)
+      pub told-planned : plannedText (netOf told) (callsIn file told) (settingsIn file told) ≡ toldText file (readAnswer file)
+      unfolding toldText
+      told-planned = rw (← e, eq-eqb (told .number) 0 z, eq-eqb (told .kind) planned k)
 
     -- a file of calls only
-    pub calls-listing : (told .kind ≡ planned → ⊥) → callsText (netOf told) (callsIn file told) ≡ listing file
-    unfolding listing toldText
-    calls-listing n = rw (← e, eq-eqb (told .number) 0 z, ne-eqb (told .kind) planned n)
+    pub told-calls : (told .kind ≡ planned → ⊥) → callsText (netOf told) (callsIn file told) ≡ toldText file (readAnswer file)
+    unfolding toldText
+    told-calls n = rw (← e, eq-eqb (told .number) 0 z, ne-eqb (told .kind) planned n)
+
+-- a file that is too long, and any other
+module _ (file : List ℕ) where
+  pub long-listing : longestFile < length file → tooLongText ≡ listing file
+  unfolding listing
+  long-listing h = rw (lt-ltb longestFile (length file) h)
+
+  pub told-listing : length file ≤ longestFile → toldText file (readAnswer file) ≡ listing file
+  unfolding listing
+  told-listing h = rw (le-ltb longestFile (length file) h)
 
 -- a text at the front of the buffer is the listing
 pub lists : {file before after : List ℕ} {size : ℕ} {text : List ℕ} → Adds before after 0 size text → text ≡ listing file → Lists file before after size
 lists a e = let b = adds-same a e in record { buffer = adds-front b; is-size = omega (arith, b .is-next); inside = omega (arith, b .is-next, b .fits) }
+
+-- the buffer keeps its length, for the programs that print the text out of it
+pub listed-length : {file before after : List ℕ} {size : ℕ} → Lists file before after size → length after ≡ length before
+unfolding front
+listed-length l = let s = l .is-size in let i = l .inside in rw (l .buffer) (simp (length-append, length-drop) (omega arith))
 
 module _ (net : Network) (calls before after : List ℕ) (a : Planned) (p : Plans net calls before after a) (l : length before ≡ 3 * mostCalls) where
   told-answer : a ≡ planAnswer net calls (3 * mostCalls)

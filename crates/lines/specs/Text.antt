@@ -2,23 +2,26 @@
 --   space, newline, dash  == the bytes between the words of a line, after a line, and in the place of a moved count
 --   decimal n             == the decimal digits of n as bytes, the highest first: no zero leads, and 0 is `0`
 --   line words            == a line of these words: one space between, a newline after
+--   tooLongText           == `too long`
 --   refusedText C R       == `refused C row R`
 --   firstLine net K moved == the first line: n, m, r, K and the word for the moved count
 --   rowLine calls settings i == the line of row i, and rowLines calls settings k those of the rows below k
 --   tableText net calls settings moved == the first line and the lines of all rows
 --   plannedText, callsText == what is printed of a file of kind 2, and of one of kind 1
+--   toldText file told    == what is printed of a file of which a reader tells this
 --   listing file          == all that is printed
 use mathlib.Core.Bool.{cond}
 use mathlib.Core.List.{List, [], _∷_, _++_, map}
 use Prim.Native.Nat.{ℕ, zero, suc, _+_, _*_, _/_, _%_}
 use lib.Dec.{eqb, ltb}
+use lib.ListN.{length}
 use Rattle.shelf.specs.declared.Network.{Network}
 use Rattle.shelf.specs.Network.{cycle, mostCalls}
 use Rattle.shelf.specs.Rows.{rowCount, α, ω, β, ω', x, γ, y}
 use Rattle.choice.specs.Rule.{at}
 use Rattle.planner.specs.Planner.{settingsRows, chosen, planAnswer}
 use Rattle.planfile.specs.declared.Told.{Told}
-use Rattle.planfile.specs.File.{planned}
+use Rattle.planfile.specs.File.{planned, longestFile}
 use Rattle.planfile.specs.Reader.{readAnswer, callsIn, settingsIn, netOf}
 
 unfoldable pub space : ℕ
@@ -43,6 +46,16 @@ unfoldable pub line : List (List ℕ) → List ℕ
 line [] = newline ∷ []
 line (word ∷ []) = word ++ newline ∷ []
 line (word ∷ next ∷ words) = word ++ space ∷ line (next ∷ words)
+
+-- "if more comes it prints `too long`"
+unfoldable pub tooWord : List ℕ
+tooWord = 116 ∷ 111 ∷ 111 ∷ []
+
+unfoldable pub longWord : List ℕ
+longWord = 108 ∷ 111 ∷ 110 ∷ 103 ∷ []
+
+unfoldable pub tooLongText : List ℕ
+tooLongText = line (tooWord ∷ longWord ∷ [])
 
 -- "A refusal prints `refused C row R`."
 unfoldable pub refusedWord : List ℕ
@@ -88,5 +101,6 @@ toldText file told =
     (cond (eqb (told .kind) planned) (plannedText (netOf told) (callsIn file told) (settingsIn file told)) (callsText (netOf told) (callsIn file told)))
     (refusedText (told .number) (told .row))
 
+-- "It reads one file on standard input, up to 7,435 bytes; if more comes it prints `too long`."
 unfoldable pub listing : List ℕ → List ℕ
-listing file = toldText file (readAnswer file)
+listing file = cond (ltb longestFile (length file)) tooLongText (toldText file (readAnswer file))

@@ -1,9 +1,10 @@
 -- Laws of the text: a number's digits one by one and how many there are, and a line as the numbers before its last word.
 --   tens k == 1 with k zeros behind it
+--   RowWidths i call light == how many digits the numbers of a row's line have at most
 use mathlib.Core.Path.{_≡_, refl, sym, ap, _∙_}
 use mathlib.Core.Bool.{Bool, true, false}
 use mathlib.Core.List.{List, [], _∷_, _++_, append-assoc}
-use Prim.Native.Nat.{ℕ, zero, suc, _+_, _*_, _/_, _%_, _≤_, _<_}
+use Prim.Native.Nat.{ℕ, zero, suc, _+_, _*_, _/_, _%_, _^_, _≤_, _<_}
 use native.Mathlib.Omega.{arith}
 use lib.Dec.{ltb}
 use lib.ListN.{length, take, getD, length-append}
@@ -11,9 +12,10 @@ use borrow.Author.Tests.{lt-ltb, le-ltb, ltb-true, ltb-false}
 use Rattle.shelf.specs.declared.Network.{Network}
 use Rattle.shelf.specs.declared.CallRow.{CallRow}
 use Rattle.shelf.specs.declared.SettingsRow.{SettingsRow}
+use Rattle.shelf.specs.Network.{mostCalls}
 use Rattle.shelf.specs.Rows.{rowCount, α, ω, β, ω', x, γ, y, CallRead, SettingsRead}
-use Rattle.lines.specs.Text.{space, newline, digits, decimal, line, refusedWord, rowWord, refusedText, firstLine, rowLine, rowLines, tableText, plannedText, dash}
-use Rattle.lines.specs.Writing.{spaced}
+use Rattle.lines.specs.Text.{space, newline, digits, decimal, line, tooWord, longWord, tooLongText, refusedWord, rowWord, refusedText, firstLine, rowLine, rowLines, tableText, plannedText, dash}
+use Rattle.lines.specs.Writing.{byteDigits, rowDigits, numberDigits, mostSizes, spaced}
 
 -- more steps than the number has change nothing
 same-digits : (s t n : ℕ) → n < s → n < t → digits s n ≡ digits t n
@@ -49,17 +51,17 @@ decimal-length (suc k) n h = go (decimal-length k (n / 10) (omega arith)) (ltb n
     go rest true e = rw (decimal-one n (ltb-true n 10 e)) (omega arith)
     go rest false e = rw (decimal-more n (ltb-false n 10 e)) (simp length-append (omega arith))
 
--- a byte has at most 3 digits, a row at most 4, and what a usize holds at most 20
-pub byte-length : (n : ℕ) → n < 256 → length (decimal n) ≤ 3
-unfolding tens
+-- of a byte, of a row's number, and of any number in the code
+pub byte-length : (n : ℕ) → n < 256 → length (decimal n) ≤ byteDigits
+unfolding byteDigits tens
 byte-length n h = decimal-length 2 n (omega arith)
 
-pub row-length : (n : ℕ) → n < 1024 → length (decimal n) ≤ 4
-unfolding tens
+pub row-length : (n : ℕ) → n < mostCalls → length (decimal n) ≤ rowDigits
+unfolding rowDigits mostCalls tens
 row-length n h = decimal-length 3 n (omega arith)
 
-pub number-length : (n : ℕ) → n < 18446744073709551616 → length (decimal n) ≤ 20
-unfolding tens
+pub number-length : (n : ℕ) → n < 2 ^ 64 → length (decimal n) ≤ numberDigits
+unfolding numberDigits tens
 number-length n h = decimal-length 19 n (omega arith)
 
 -- numbers one behind the other
@@ -78,7 +80,7 @@ spaced-room [] i h = absurd (omega arith)
 spaced-room (number ∷ numbers) zero h = simp length-append (omega arith)
 spaced-room (number ∷ numbers) (suc i) h = simp length-append (omega (arith, spaced-room numbers i (omega arith)))
 
--- the words of a first line, of a row's line and of a refusal, as they are written
+-- the words of a first line, of a row's line, of a refusal and of a file that is too long, as they are written
 pub first-line-is : (net : Network) (K : ℕ) (moved : List ℕ)
     → firstLine net K moved ≡ spaced (net .n ∷ net .m ∷ net .r ∷ K ∷ []) ++ moved ++ newline ∷ []
 unfolding firstLine line spaced
@@ -99,18 +101,32 @@ pub row-line-is : (calls settings : List ℕ) (i : ℕ)
 unfolding rowLine line spaced
 row-line-is calls settings i = simp append-assoc
 
+pub too-long-is : tooLongText ≡ 116 ∷ 111 ∷ 111 ∷ 32 ∷ 108 ∷ 111 ∷ 110 ∷ 103 ∷ 10 ∷ []
+unfolding tooLongText tooWord longWord line space newline
+too-long-is = refl
+
 pub refused-is : (number row : ℕ)
     → refusedText number row ≡ (114 ∷ 101 ∷ 102 ∷ 117 ∷ 115 ∷ 101 ∷ 100 ∷ 32 ∷ []) ++ decimal number ++ (32 ∷ 114 ∷ 111 ∷ 119 ∷ 32 ∷ []) ++ decimal row ++ newline ∷ []
 unfolding refusedText refusedWord rowWord line space
 refused-is number row = simp append-assoc
 
 -- the room that they take
-pub sizes-length : (n m r K : ℕ) → length (decimal n) ≤ 20 → length (decimal m) ≤ 20 → length (decimal r) ≤ 20 → length (decimal K) ≤ 20
-    → length (spaced (n ∷ m ∷ r ∷ K ∷ [])) ≤ 84
-unfolding spaced
+pub sizes-length : (n m r K : ℕ) → length (decimal n) ≤ numberDigits → length (decimal m) ≤ numberDigits → length (decimal r) ≤ numberDigits → length (decimal K) ≤ numberDigits
+    → length (spaced (n ∷ m ∷ r ∷ K ∷ [])) ≤ mostSizes
+unfolding spaced mostSizes
 sizes-length n m r K a b c d = simp length-append (omega arith)
 
-module _ (calls settings : List ℕ) (i : ℕ) (below : i < 1024) (call : CallRow) (light : SettingsRow) (read : CallRead calls i call) (lit : SettingsRead settings i light) where
+pub record RowWidths (i : ℕ) (call : CallRow) (light : SettingsRow) : Type 0 where
+  pub row : length (decimal i) ≤ rowDigits
+  pub input-module : length (decimal (call .«input_module»)) ≤ byteDigits
+  pub input-channel : length (decimal (call .«input_channel»)) ≤ byteDigits
+  pub output-module : length (decimal (call .«output_module»)) ≤ byteDigits
+  pub output-channel : length (decimal (call .«output_channel»)) ≤ byteDigits
+  pub to-central : length (decimal (light .«to_central»)) ≤ byteDigits
+  pub central : length (decimal (light .central)) ≤ byteDigits
+  pub from-central : length (decimal (light .«from_central»)) ≤ byteDigits
+
+module _ (calls settings : List ℕ) (i : ℕ) (below : i < mostCalls) (call : CallRow) (light : SettingsRow) (read : CallRead calls i call) (lit : SettingsRead settings i light) where
   -- the numbers of a row's line, as the code's row records hold them
   abbrev pub numbers : List ℕ
   numbers =
@@ -119,16 +135,15 @@ module _ (calls settings : List ℕ) (i : ℕ) (below : i < 1024) (call : CallRo
   pub row-line-told : spaced numbers ++ decimal (call .«output_channel») ++ newline ∷ [] ≡ rowLine calls settings i
   row-line-told = rw (read .input-module, read .input-channel, read .output-module, read .output-channel, lit .to-central, lit .central, lit .from-central) (sym (row-line-is calls settings i))
 
-  pub row-line-room : length (spaced numbers) + length (decimal (call .«output_channel»)) < 40
-  unfolding spaced
-  row-line-room = simp length-append (omega (
-    arith,
-    row-length i below,
-    byte-length (call .«input_module») (read .small-input-module),
-    byte-length (call .«input_channel») (read .small-input-channel),
-    byte-length (call .«output_module») (read .small-output-module),
-    byte-length (call .«output_channel») (read .small-output-channel),
-    byte-length (light .«to_central») (lit .small-to-central),
-    byte-length (light .central) (lit .small-central),
-    byte-length (light .«from_central») (lit .small-from-central),
-  ))
+  -- how long they are at most, one by one
+  pub row-widths : RowWidths i call light
+  row-widths = record {
+    row = row-length i below;
+    input-module = byte-length (call .«input_module») (read .small-input-module);
+    input-channel = byte-length (call .«input_channel») (read .small-input-channel);
+    output-module = byte-length (call .«output_module») (read .small-output-module);
+    output-channel = byte-length (call .«output_channel») (read .small-output-channel);
+    to-central = byte-length (light .«to_central») (lit .small-to-central);
+    central = byte-length (light .central) (lit .small-central);
+    from-central = byte-length (light .«from_central») (lit .small-from-central);
+  }

@@ -1,7 +1,9 @@
 -- What the writing functions guarantee, and how one text is written behind another.
 --   Adds before after at next text == the text was put into the buffer at this place, and `next` is the place behind it
 --   spaced numbers  == each number in decimal with a space behind it
---   mostFirstLine, mostRowLine == so many bytes are enough for a first line or a refusal, and for the line of a row
+--   byteDigits, rowDigits, numberDigits == the most digits of a byte, of a row's number, and of any number in the code
+--   mostSizes, mostFirstLine, mostRowLine == so many bytes are enough for the sizes and K, for a first line or a refusal, and for
+--                      the line of a row
 --   longestListing  == so many bytes are enough for every listing
 --   HasRow calls settings row, HasRows calls settings == the row, and all rows, stand in calls and settings
 --   Lists file before after size == what the entry guarantees
@@ -27,11 +29,26 @@ unfoldable pub spaced : List ℕ → List ℕ
 spaced [] = []
 spaced (number ∷ numbers) = decimal number ++ space ∷ spaced numbers
 
-unfoldable pub mostFirstLine : ℕ
-mostFirstLine = 112
+-- a byte is below 256, a row's number below the most calls, and any number in the code below 2 ^ 64
+unfoldable pub byteDigits : ℕ
+byteDigits = 3
 
+unfoldable pub rowDigits : ℕ
+rowDigits = 4
+
+unfoldable pub numberDigits : ℕ
+numberDigits = 20
+
+-- n, m, r and K, and behind them the moved count: any numbers, each with a space or a newline behind it
+unfoldable pub mostSizes : ℕ
+mostSizes = 4 * (numberDigits + 1)
+
+unfoldable pub mostFirstLine : ℕ
+mostFirstLine = mostSizes + (numberDigits + 1)
+
+-- a row's number and the seven bytes of its call and its settings, each with a space or a newline behind it
 unfoldable pub mostRowLine : ℕ
-mostRowLine = 40
+mostRowLine = (rowDigits + 1) + 7 * (byteDigits + 1)
 
 unfoldable pub longestListing : ℕ
 longestListing = mostFirstLine + mostRowLine * mostCalls
@@ -50,6 +67,14 @@ pub record Lists (file before after : List ℕ) (size : ℕ) : Type 0 where
   pub buffer : after ≡ front before (listing file)
   pub is-size : size ≡ length (listing file)
   pub inside : size ≤ length before
+
+-- the longest listing has room for a first line, and behind it for the lines of all rows
+pub listing-room : (K : ℕ) → K ≤ mostCalls → mostFirstLine + mostRowLine * K ≤ longestListing
+unfolding longestListing mostRowLine byteDigits rowDigits
+listing-room K h = omega arith
+
+pub first-line-room : mostFirstLine ≤ longestListing
+first-line-room = omega (arith, listing-room 0 (omega arith))
 
 -- nothing written, and one byte written
 pub adds-none : (buffer : List ℕ) (at : ℕ) → at ≤ length buffer → Adds buffer buffer at at []

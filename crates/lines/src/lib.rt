@@ -5,16 +5,28 @@ ghost use Prim.Native.Nat.{_+_, _*_, _≤_, _<_};
 ghost use lib.ListN.{length};
 ghost use Rattle.shelf.specs.Network.{mostCalls};
 ghost use Rattle.shelf.specs.Rows.{rowCount};
-ghost use Rattle.lines.specs.Text.{newline, decimal, refusedText, rowLine, rowLines, tableText, plannedText, callsText};
-ghost use Rattle.lines.specs.Writing.{mostFirstLine, mostRowLine, longestListing, spaced, HasRow, HasRows, Adds, Lists};
+ghost use Rattle.planfile.specs.Reader.{readAnswer};
+ghost use Rattle.lines.specs.Text.{newline, decimal, refusedText, rowLine, rowLines, tableText, plannedText, callsText, toldText};
+ghost use Rattle.lines.specs.Writing.{mostSizes, mostFirstLine, mostRowLine, longestListing, spaced, HasRow, HasRows, Adds, Lists};
 use shelf::CallRow;
 use shelf::Network;
 use shelf::SettingsRow;
 
-// The most bytes of a first line or of a refusal, and of the line of a row.
-const FIRST_LINE: usize = 112;
+// The digit 0, as a byte.
+const ZERO: usize = 48;
 
-const ROW_LINE: usize = 40;
+// The most digits of a byte, of a row's number, and of any number.
+const BYTE_DIGITS: usize = 3;
+
+const ROW_DIGITS: usize = 4;
+
+const NUMBER_DIGITS: usize = 20;
+
+// The most bytes of a first line or of a refusal. A first line has five numbers, each with a space or a newline behind it.
+const FIRST_LINE: usize = 5 * (NUMBER_DIGITS + 1);
+
+// The most bytes of the line of a row: its number, and the seven bytes of its call and its settings.
+const ROW_LINE: usize = (ROW_DIGITS + 1) + 7 * (BYTE_DIGITS + 1);
 
 // A buffer of so many bytes has room for every listing.
 pub const LONGEST_LISTING: usize = FIRST_LINE + ROW_LINE * Network::MOST_CALLS;
@@ -43,10 +55,10 @@ fn write_number(out: &mut [u8], at: usize, value: usize) -> usize
     ensures { λ next. ⌜ Adds (now (out .entry)) (now (out .exit)) at next (decimal value) ⌝ }
 {
     if value < 10 {
-        return write_byte(out, at, (48 + value) as u8);
+        return write_byte(out, at, (ZERO + value) as u8);
     }
     let last = write_number(out, at, value / 10);
-    write_byte(out, last, (48 + value % 10) as u8)
+    write_byte(out, last, (ZERO + value % 10) as u8)
 }
 
 // Writes numbers, each with a space behind it.
@@ -111,7 +123,7 @@ fn write_rows(out: &mut [u8], at: usize, calls: &[u8], settings: &[u8]) -> usize
 // Writes the sizes of the network and K, each with a space behind it.
 fn write_sizes(out: &mut [u8], n: usize, m: usize, r: usize, count: usize) -> usize
     requires { ⌜ mostFirstLine ≤ length (now out) ⌝ }
-    ensures { λ next. ⌜ Adds (now (out .entry)) (now (out .exit)) 0 next (spaced (n ∷ m ∷ r ∷ count ∷ [])) × (next ≤ 84) ⌝ }
+    ensures { λ next. ⌜ Adds (now (out .entry)) (now (out .exit)) 0 next (spaced (n ∷ m ∷ r ∷ count ∷ [])) × (next ≤ mostSizes) ⌝ }
 {
     let numbers = [n, m, r, count];
     write_numbers(out, 0, &numbers)
@@ -164,11 +176,10 @@ fn plan_and_list(net: Network, calls: &[u8], out: &mut [u8]) -> usize
     list_placed(net, calls, &settings[..end], answer.moved, out)
 }
 
-// Writes the listing of a file to the front of `out`, and tells how many bytes it has; the bytes beyond are kept. Nothing is
-// asked of the file.
-pub fn list(file: &[u8], out: &mut [u8]) -> usize
-    requires { do ⌜ (← ⟦LONGEST_LISTING⟧) ≤ length (now out) ⌝ }
-    ensures { λ size. ⌜ Lists (now (file .entry)) (now (out .entry)) (now (out .exit)) size ⌝ }
+// Lists a file that is not too long: the reader's refusal, the rows with the file's own settings, or the calls planned.
+fn list_told(file: &[u8], out: &mut [u8]) -> usize
+    requires { ⌜ longestListing ≤ length (now out) ⌝ }
+    ensures { λ next. ⌜ Adds (now (out .entry)) (now (out .exit)) 0 next (toldText (now (file .entry)) (readAnswer (now (file .entry)))) ⌝ }
 {
     let told = planfile::read(file);
     if told.number != 0 {
@@ -191,4 +202,15 @@ pub fn list(file: &[u8], out: &mut [u8]) -> usize
         );
     }
     plan_and_list(net, &file[calls_at..settings_at], out)
+}
+
+// Writes the listing of a file to the front of `out`, and tells how many bytes it has; the bytes beyond are kept. Nothing is
+// asked of the file.
+pub fn list(file: &[u8], out: &mut [u8; LONGEST_LISTING]) -> usize
+    ensures { λ size. ⌜ Lists (now (file .entry)) (now (out .entry)) (now (out .exit)) size ⌝ }
+{
+    if planfile::LONGEST_FILE < file.len() {
+        return write_word(out, 0, b"too long\n");
+    }
+    list_told(file, out)
 }

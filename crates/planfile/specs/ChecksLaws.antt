@@ -1,10 +1,14 @@
 -- What it means that the checks of sizes, lengths and rows pass: the table is in order and, if planned, its settings are lawful.
 --   Measured kind net calls settings == what sizes and lengths are that 1, 2 and 3 do not refuse
+--   most-rows            == the most bytes of calls and settings
+--   longest-file, longest-reached, longest-is == no file of such parts is longer than the longest, a planned one with the longest
+--                           note and the most calls is as long, and that is 7,435 bytes
 use mathlib.Core.Path.{_≡_, refl, _∙_}
 use mathlib.Core.Logic.{_↔_, Iff·trans}
 use mathlib.Core.Bool.{Bool, true, false, cond}
 use mathlib.Core.List.{List}
-use Prim.Native.Nat.{ℕ, _*_, _≤_}
+use Prim.Native.Nat.{ℕ, _+_, _*_, _≤_}
+use native.Mathlib.Omega.{arith}
 use lib.Dec.{T, eqb}
 use lib.ListN.{length}
 use borrow.Author.Tests.{eqb-true, eqb-false}
@@ -18,8 +22,8 @@ use Rattle.calls.specs.Table.{sizeChecks, callChecks, InOrder}
 use Rattle.calls.specs.TableLaws.{size-checks-pass, call-checks-pass}
 use Rattle.acceptance.specs.Acceptance.{unlawfulRow}
 use Rattle.acceptance.specs.Exactly.{rows-lawful}
-use Rattle.planfile.specs.File.{planned, settingsPerCall, settingsDistance}
-use Rattle.planfile.specs.FileLaws.{planned-distance}
+use Rattle.planfile.specs.File.{planned, trailerLength, mostNote, settingsPerCall, settingsDistance, fileOf, longestFile}
+use Rattle.planfile.specs.FileLaws.{planned-distance, settings-most, length-file}
 use Rattle.planfile.specs.Checks.{tableChecks}
 
 pub record Measured (kind : ℕ) (net : Network) (calls settings : List ℕ) : Type 0 where
@@ -63,3 +67,20 @@ module _ (kind : ℕ) (net : Network) (calls settings : List ℕ) where
       order z =
           let rows = call-checks-pass net calls .0 z in
           record { limits = h .limits; whole = h .whole; few = h .few; inside = rows .0; inlets = rows .1; outlets = rows .2 }
+
+  -- the most bytes of rows, and "The longest file is 7,435 bytes."
+  module _ (h : Measured kind net calls settings) where
+    pub most-rows : length calls + length settings ≤ 4 * mostCalls + 3 * mostCalls
+    most-rows = omega (arith, h .whole, h .settings-length, h .few, settings-most kind (rowCount calls))
+
+    pub longest-file : (note : List ℕ) → length note ≤ mostNote → length (fileOf net kind note calls settings) ≤ longestFile
+    unfolding longestFile
+    longest-file note l = rw length-file (omega (arith, most-rows))
+
+    pub longest-reached : (note : List ℕ) → length note ≡ mostNote → kind ≡ planned → rowCount calls ≡ mostCalls → length (fileOf net kind note calls settings) ≡ longestFile
+    unfolding longestFile
+    longest-reached note l k K = rw length-file (omega (arith, h .whole, h .settings-length, planned-distance kind (rowCount calls) k))
+
+pub longest-is : longestFile ≡ 7435
+unfolding longestFile mostNote mostCalls trailerLength
+longest-is = refl

@@ -7,6 +7,7 @@
 --   highByte v, lowByte v == the two bytes of a number, and numberAt bytes i the number of two bytes
 --   trailerOf net kind K  == the trailer's 12 bytes
 --   fileOf net kind note calls settings == the whole file
+--   longestFile           == the bytes of the longest file
 --   part file from to     == the bytes of a file from one place up to another
 --   placed buffer at bytes == the buffer with these bytes in it from a place on; front buffer bytes, at its front
 use mathlib.Core.Bool.{Bool, cond, _||_}
@@ -15,6 +16,7 @@ use Prim.Native.Nat.{ℕ, _+_, _-_, _*_, _/_, _%_}
 use lib.Dec.{eqb}
 use lib.ListN.{length, getD, take, drop}
 use Rattle.shelf.specs.declared.Network.{Network}
+use Rattle.shelf.specs.Network.{mostCalls}
 use Rattle.shelf.specs.Rows.{rowCount}
 
 -- "kind (1 calls only, 2 planned)"
@@ -76,6 +78,10 @@ trailerOf net kind K =
 -- "the trailer stands last and points back. A file is a note .., K call rows, K settings rows if planned, and 12 trailer bytes"
 unfoldable pub fileOf : Network → ℕ → List ℕ → List ℕ → List ℕ → List ℕ
 fileOf net kind note calls settings = note ++ calls ++ settings ++ trailerOf net kind (rowCount calls)
+
+-- "The longest file is 7,435 bytes.": the longest note, the most calls, and their settings
+unfoldable pub longestFile : ℕ
+longestFile = mostNote + 4 * mostCalls + 3 * mostCalls + trailerLength
 
 unfoldable pub part : List ℕ → ℕ → ℕ → List ℕ
 part file from to = take (to - from) (drop from file)

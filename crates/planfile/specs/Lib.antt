@@ -1,11 +1,7 @@
 pub mod File
 pub mod Checks
 pub mod Reader
-pub mod Writer
 pub mod FileLaws
 pub mod ChecksLaws
 pub mod TrailerLaws
 pub mod ReaderLaws
-pub mod WriterLaws
-pub mod RoundTrips
-pub mod Examples

@@ -1,7 +1,9 @@
 -- What a file is that the reader does not refuse, and that two answers coincide.
 --   Bytes file           == every element of the list is a byte
 --   reader-passes        == what it means that none of the reader's checks refuses
---   reads, one-answer    == the guarantee from the answer alone, and that two answers that satisfy it are the same
+--   reads                == the guarantee from the answer alone
+--   whole-measured, longest-read == a file that was read passed 1, 2 and 3, and is no longer than the longest file
+--   one-answer           == two answers that satisfy the guarantee are the same
 use mathlib.Core.Path.{_≡_, refl, sym, ap, _∙_}
 use mathlib.Core.Logic.{_↔_, ⊎-elim}
 use mathlib.Core.Bool.{Bool, true, false}
@@ -22,8 +24,8 @@ use Rattle.calls.specs.Table.{InOrder}
 use Rattle.planfile.specs.declared.Told.{Told}
 use Rattle.planfile.specs.declared.Trailer.{Trailer}
 use Rattle.planfile.specs.declared.Trailer.the-variants.{Refused}
-use Rattle.planfile.specs.File.{planned, trailerLength, firstMark, secondMark, settingsDistance, callsDistance, trailerOf, fileOf, part}
-use Rattle.planfile.specs.ChecksLaws.{Measured, table-lawful}
+use Rattle.planfile.specs.File.{planned, trailerLength, firstMark, secondMark, settingsDistance, callsDistance, trailerOf, fileOf, longestFile, part}
+use Rattle.planfile.specs.ChecksLaws.{Measured, table-lawful, longest-file}
 use Rattle.planfile.specs.FileLaws.{no-distance, length-part, rows-part, take-part, high-number, low-number, listed, listed-drop}
 use Rattle.planfile.specs.Reader.{trailerAt, trailerIn, toldNet, toldKind, toldCount, toldSettingsBack, toldCallsBack, trailerVerdict, layoutOf, wholeTold, refusedTold, noteIn, callsIn, settingsIn, netOf, layoutChecks, readerVerdict, readAnswer, toldBy, answerOf, LaidOut, TakenApart, WholeFile, Reads}
 use Rattle.planfile.specs.TrailerLaws.{settings-held, Stated, trailer-passes, refused-case}
@@ -181,6 +183,21 @@ module _ (file : List ℕ) where
     zeros = λ n. let refusal = refused-answer (λ z. n (ap (λ (t : Told). t .number) (e ∙ whole-answer z))) in rw (e ∙ refusal);
     whole = λ z. let p = answer-passes (sym (ap (λ (t : Told). t .number) e) ∙ z) in rw (e, whole-answer p) (whole-file b p);
   }
+
+  -- a file that was read passed 1, 2 and 3, and is no longer than the longest file
+  pub whole-measured : (told : Told) → WholeFile file told → Measured (told .kind) (netOf told) (callsIn file told) (settingsIn file told)
+  whole-measured told whole = record {
+    limits = whole .in-order .limits;
+    whole = whole .in-order .whole;
+    settings-length = whole .settings-length ∙ ap (settingsDistance (told .kind)) (whole .tells-K .1);
+    few = whole .in-order .few;
+  }
+
+  pub longest-read : (told : Told) → Reads file told → told .number ≡ 0 → length file ≤ longestFile
+  longest-read told g z =
+      let whole = g .whole z in
+      let most = longest-file (told .kind) (netOf told) (callsIn file told) (settingsIn file told) (whole-measured told whole) (noteIn file told) (whole .short-note) in
+      omega (arith, ap length (whole .is-file))
 
   -- two answers that satisfy the guarantee are the same
   pub one-answer : (told told' : Told) → Reads file told → Reads file told' → told ≡ told'

@@ -11,7 +11,6 @@ use lib.Dec.{T, eqb, leb, ltb, leb→le, le→leb}
 use lib.ListN.{length, getD}
 use borrow.Author.Tests.{eq-eqb, ne-eqb, lt-ltb, le-ltb, eqb-true, eqb-false}
 use Rattle.shelf.specs.declared.Network.{Network}
-use Rattle.shelf.specs.declared.Sized.{Sized}
 use Rattle.shelf.specs.declared.Sized.the-variants as answered
 use Rattle.shelf.specs.Network.{withinLimits, mostCalls, sized}
 use Rattle.shelf.specs.Every.{both-is, neither-is}

@@ -1,15 +1,14 @@
 // Plan files: a note, call rows, settings rows if planned, and a trailer that stands last and points back. Any bytes are
-// read or refused, and any parts are written or refused. How a file is laid out is stated once, in specs/File.antt.
+// read or refused. How a file is laid out is stated once, in specs/File.antt, for the reader here and the writers above.
 ghost use mathlib.Core.Path.{_≡_};
 ghost use Prim.Native.Nat.{_+_, _*_, _≤_, _<_};
 ghost use lib.Dec.{T};
 ghost use lib.ListN.{length};
 ghost use Rattle.shelf.specs.Network.{withinLimits, mostCalls, sized};
 ghost use Rattle.shelf.specs.Rows.{rowCount};
-ghost use Rattle.planfile.specs.File.{callsOnly, planned, trailerLength, settingsPerCall, settingsDistance, callsDistance, highByte, lowByte, numberAt, trailerOf, fileOf, placed, front};
+ghost use Rattle.planfile.specs.File.{trailerLength, settingsPerCall, settingsDistance, callsDistance, numberAt, placed};
 ghost use Rattle.planfile.specs.Checks.{tableChecks};
 ghost use Rattle.planfile.specs.Reader.{toldNet, isTrailer, placesStated, wholeTold, toldBy, LaidOut, TakenApart, layoutChecks, Reads};
-ghost use Rattle.planfile.specs.Writer.{partChecks, HasRoom, Writes};
 use calls::Verdict;
 use shelf::Network;
 use shelf::Sized;
@@ -20,9 +19,15 @@ pub const CALLS_ONLY: usize = 1;
 pub const PLANNED: usize = 2;
 
 // The bytes of a trailer, and the most that a note may have.
-const TRAILER_LENGTH: usize = 12;
+pub const TRAILER_LENGTH: usize = 12;
 
-const MOST_NOTE: usize = 255;
+pub const MOST_NOTE: usize = 255;
+
+// The bytes of the longest file: the longest note, the most calls, and their settings.
+pub const LONGEST_FILE: usize = MOST_NOTE
+    + 4 * Network::MOST_CALLS
+    + 3 * Network::MOST_CALLS
+    + TRAILER_LENGTH;
 
 // Where in a trailer stand kind, K, the distances back to settings and to calls, and the mark. The sizes n, m and r stand first.
 const KIND_AT: usize = 3;
@@ -36,9 +41,9 @@ const CALLS_BACK_AT: usize = 8;
 const MARK_AT: usize = 10;
 
 // The mark at a trailer's end.
-const FIRST_MARK: u8 = 0x41;
+pub const FIRST_MARK: u8 = 0x41;
 
-const SECOND_MARK: u8 = 0x57;
+pub const SECOND_MARK: u8 = 0x57;
 
 // What a reader tells: number and row, the network's sizes, the kind, K, and where note, calls and settings begin. A refused
 // read tells zero for all but number and row. Programs in C share this record.
@@ -158,7 +163,9 @@ pub fn number_at(bytes: &[u8], at: usize) -> usize
     requires { ⌜ at + 2 ≤ length (now bytes) ⌝ }
     ensures { λ number. ⌜ (number ≡ numberAt (now (bytes .entry)) at) × (number < 65536) ⌝ }
 {
-    shelf::byte_at(bytes, at) * 256 + shelf::byte_at(bytes, at + 1)
+    let high = shelf::byte_at(bytes, at);
+    let low = shelf::byte_at(bytes, at + 1);
+    high * 256 + low
 }
 
 // Whether the distances are as stated for the kind and K, no more than stands before the trailer, and leave a note that is
@@ -186,14 +193,14 @@ fn are_stated(
 }
 
 // The bytes of settings for each call in a file of this kind.
-fn settings_per_call(kind: usize) -> usize
+pub fn settings_per_call(kind: usize) -> usize
     ensures { λ per. ⌜ (per ≡ settingsPerCall kind) × (per ≤ 3) ⌝ }
 {
     if kind == PLANNED { 3 } else { 0 }
 }
 
 // How far back from the trailer's start the first settings row stands.
-fn settings_distance(kind: usize, count: usize) -> usize
+pub fn settings_distance(kind: usize, count: usize) -> usize
     requires { ⌜ count ≤ mostCalls ⌝ }
     ensures { λ back. ⌜ (back ≡ settingsDistance kind count) × (back ≤ 3 * count) ⌝ }
 {
@@ -201,7 +208,7 @@ fn settings_distance(kind: usize, count: usize) -> usize
 }
 
 // How far back from the trailer's start the first call row stands.
-fn calls_distance(kind: usize, count: usize) -> usize
+pub fn calls_distance(kind: usize, count: usize) -> usize
     requires { ⌜ count ≤ mostCalls ⌝ }
     ensures { λ back. ⌜ back ≡ callsDistance kind count ⌝ }
 {
@@ -266,141 +273,14 @@ fn check_layout(file: &[u8], layout: Layout) -> Verdict
 }
 
 // Refusals 5, 6 and 7, and for a planned file 9 to 13 row by row, for sizes and lengths that were tested.
-fn check_table(net: Network, kind: usize, calls: &[u8], settings: &[u8]) -> Verdict
+pub fn check_table(net: Network, kind: usize, calls: &[u8], settings: &[u8]) -> Verdict
     requires { ⌜ T (withinLimits net) × (length (now settings) ≡ settingsDistance kind (rowCount (now calls))) ⌝ }
     ensures { λ v. ⌜ v ≡ tableChecks net kind (now (calls .entry)) (now (settings .entry)) ⌝ }
 {
-    if kind == PLANNED {
-        acceptance::check_rows(net, calls, settings)
-    } else {
-        calls::check_calls(net, calls)
+    if kind != PLANNED {
+        return calls::check_calls(net, calls);
     }
-}
-
-// Writes a calls-only file at the front of `out`: 0 and K, or the first refusal in the order 1, 2, 3, 16, 4, 5, 6, 7. Settings
-// have no bytes, else 2. A refusal changes no byte, and bytes beyond the file keep their values. Nothing is asked of the input.
-pub fn write_calls(
-    net: Network,
-    note: &[u8],
-    calls: &[u8],
-    settings: &[u8],
-    out: &mut [u8],
-) -> Verdict
-    ensures { λ v. ⌜ Writes callsOnly net (now (note .entry)) (now (calls .entry)) (now (settings .entry)) (now (out .entry)) (now (out .exit)) v ⌝ }
-{
-    write(net, CALLS_ONLY, note, calls, settings, out)
-}
-
-// Writes a planned file in the same way, with 3 bytes of settings for each call: after 7 it tries row by row 9 to 13.
-pub fn write_planned(
-    net: Network,
-    note: &[u8],
-    calls: &[u8],
-    settings: &[u8],
-    out: &mut [u8],
-) -> Verdict
-    ensures { λ v. ⌜ Writes planned net (now (note .entry)) (now (calls .entry)) (now (settings .entry)) (now (out .entry)) (now (out .exit)) v ⌝ }
-{
-    write(net, PLANNED, note, calls, settings, out)
-}
-
-// Writes a file of this kind, where the checks of its parts pass.
-fn write(
-    net: Network,
-    kind: usize,
-    note: &[u8],
-    calls: &[u8],
-    settings: &[u8],
-    out: &mut [u8],
-) -> Verdict
-    requires { ⌜ kind < 256 ⌝ }
-    ensures { λ v. ⌜ Writes kind net (now (note .entry)) (now (calls .entry)) (now (settings .entry)) (now (out .entry)) (now (out .exit)) v ⌝ }
-{
-    let checked = check_parts(net, kind, note, calls, settings, out.len());
-    if checked.number != 0 {
-        return checked;
-    }
-    put_file(net, kind, note, calls, settings, out);
-    Verdict {
-        number: 0,
-        row: calls.len() / 4,
-    }
-}
-
-// Puts the file of these parts at the front of `out`, which has room for it.
-fn put_file(net: Network, kind: usize, note: &[u8], calls: &[u8], settings: &[u8], out: &mut [u8])
-    requires { ⌜ (kind < 256) × HasRoom kind net (now note) (now calls) (now settings) (length (now out)) ⌝ }
-    ensures { λ _. ⌜ now (out .exit) ≡ front (now (out .entry)) (fileOf net kind (now (note .entry)) (now (calls .entry)) (now (settings .entry))) ⌝ }
-{
-    let calls_at = note.len();
-    let settings_at = calls_at + calls.len();
-    let trailer_at = settings_at + settings.len();
-    let trailer = trailer_of(net, kind, calls.len() / 4);
-    copy_in(note, out, 0);
-    copy_in(calls, out, calls_at);
-    copy_in(settings, out, settings_at);
-    copy_in(&trailer, out, trailer_at);
-}
-
-// The checks of the parts of a file that is to be written, in a writer's order.
-fn check_parts(
-    net: Network,
-    kind: usize,
-    note: &[u8],
-    calls: &[u8],
-    settings: &[u8],
-    room: usize,
-) -> Verdict
-    ensures { λ v. ⌜ v ≡ partChecks kind net (now (note .entry)) (now (calls .entry)) (now (settings .entry)) room ⌝ }
-{
-    let sizes = calls::check_sizes(net, calls.len(), settings.len(), settings_per_call(kind));
-    if sizes.number != 0 {
-        return sizes;
-    }
-    if MOST_NOTE < note.len() {
-        return Verdict { number: 16, row: 0 };
-    }
-    if room < note.len() + calls.len() + settings.len() + TRAILER_LENGTH {
-        return Verdict { number: 4, row: 0 };
-    }
-    check_table(net, kind, calls, settings)
-}
-
-// The trailer of a file with `count` calls.
-fn trailer_of(net: Network, kind: usize, count: usize) -> [u8; TRAILER_LENGTH]
-    requires { ⌜ T (withinLimits net) × (kind < 256) × (count ≤ mostCalls) ⌝ }
-    ensures { λ trailer. ⌜ trailer ≡ trailerOf net kind count ⌝ }
-{
-    let settings_back = settings_distance(kind, count);
-    let calls_back = calls_distance(kind, count);
-    [
-        net.n as u8,
-        net.m as u8,
-        net.r as u8,
-        kind as u8,
-        high_byte(count),
-        low_byte(count),
-        high_byte(settings_back),
-        low_byte(settings_back),
-        high_byte(calls_back),
-        low_byte(calls_back),
-        FIRST_MARK,
-        SECOND_MARK,
-    ]
-}
-
-// The high byte of a two-byte number.
-fn high_byte(value: usize) -> u8
-    ensures { λ byte. ⌜ byte ≡ highByte value ⌝ }
-{
-    (value / 256 % 256) as u8
-}
-
-// The low byte of a two-byte number.
-fn low_byte(value: usize) -> u8
-    ensures { λ byte. ⌜ byte ≡ lowByte value ⌝ }
-{
-    (value % 256) as u8
+    acceptance::check_rows(net, calls, settings)
 }
 
 // Copies all of `source` into `out`, from `at` on. Texts of listings are copied by it too.

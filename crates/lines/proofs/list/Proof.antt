@@ -1,138 +1,31 @@
--- `lines::list` meets its contract: the reader's refusal, the planned file's own settings, or the calls with the settings of the
--- planner.
-use native.Mathlib.Omega.{arith}
-use denote.Ref.{now}
+-- `lines::list` meets its contract: a file that is too long, and any other.
+use mathlib.Core.Path.{sym, _∙_}
 use borrow.Author.Needs.{needs}
 use Rattle.shelf.specs.Network.{mostCalls}
-use Rattle.planfile.specs.File.{planned, part}
-use Rattle.planfile.specs.Reader.{callsIn, settingsIn, netOf}
-use Rattle.lines.specs.Writing.{mostFirstLine, mostRowLine, longestListing}
-use Rattle.lines.specs.Listing.{Held, held, refused-listing, calls-few, planned-rows, planned-listing, calls-listing, lists}
+use Rattle.planfile.specs.ChecksLaws.{longest-is}
+use Rattle.lines.specs.TextLaws.{too-long-is}
+use Rattle.lines.specs.Writing.{byteDigits, rowDigits, numberDigits, mostSizes, mostFirstLine, mostRowLine, longestListing}
+use Rattle.lines.specs.Listing.{long-listing, told-listing, lists}
 use Rattle.lines.proofs.list.Statement.{statement}
 use Rattle.lines.proofs.list.Tie as tie
 
--- what is told of a file that is not refused
-holds : (c : tie.Else1) → Held (now (c .before .before .before .before .before .args .file)) (c .before .before .read .result)
-holds c = held _ _ (c .before .before .read .ensures .answer) (c .if1 .left)
+slice-aggregate-write-word : tie.Need-slice-aggregate-write-word
+slice-aggregate-write-word c = search needs
 
-read-requires : tie.Need-read-requires
-read-requires c κs = search needs
-
-write-refusal-requires : tie.Need-write-refusal-requires
-unfolding longestListing mostFirstLine mostRowLine mostCalls
-write-refusal-requires c κs = omega (arith, c .before .before .before .before .before .before .pre)
-
-same-length : tie.Need-same-length
-same-length c = search needs
+write-word-requires : tie.Need-write-word-requires
+write-word-requires c κs = search needs
 
 returns : tie.Need-returns
-returns c =
-    let refused = c .before .before in
-    let read = refused .before .before .before .before in
-    lists (refused .write-refusal .ensures) (refused-listing _ _ (read .read .ensures .answer) (refused .before .before .if1 .taken))
+returns c = lists (c .write-word .ensures) (sym too-long-is ∙ long-listing _ (rw longest-is (c .before .before .before .if1 .taken)))
 
-mul-end : tie.Need-mul-end
-unfolding mostCalls
-mul-end c = omega (arith, holds (c .before .before .before) .few)
-
-add-end : tie.Need-add-end
-unfolding planned
-add-end c = let h = holds (c .before .before .before) in omega (arith, h .settings-end (c .before .if2 .taken), h .inside)
-
-sub-list-accepted : tie.Need-sub-list-accepted
-sub-list-accepted c = omega (arith, holds (c .before .before .before) .calls-end)
-
-part-list-accepted-start : tie.Need-part-list-accepted-start
-part-list-accepted-start c = omega (arith, holds (c .before .before .before) .calls-end)
-
-part-list-accepted-end : tie.Need-part-list-accepted-end
-part-list-accepted-end c = let h = holds (c .before .before .before) in omega (arith, h .settings-inside, h .inside)
-
-sub-list-accepted-2 : tie.Need-sub-list-accepted-2
-sub-list-accepted-2 c = search needs
-
-part-list-accepted-start-2 : tie.Need-part-list-accepted-start-2
-part-list-accepted-start-2 c = search needs
-
-part-list-accepted-end-2 : tie.Need-part-list-accepted-end-2
-unfolding planned
-part-list-accepted-end-2 c =
-    let left = c .before .before .before .before in
-    let h = holds left in
-    omega (arith, h .settings-end (c .before .before .if2 .taken), h .inside)
-
-list-accepted-requires : tie.Need-list-accepted-requires
-unfolding longestListing mostFirstLine mostRowLine mostCalls callsIn settingsIn part planned
-list-accepted-requires c κs =
-    let then = c .before .before .before .before in
-    let left = then .before .before in
-    let read = left .before .before in
-    let rows = planned-rows _ _ (read .read .ensures .answer) (left .if1 .left) (then .if2 .taken) in
-    (omega (arith, read .before .before .before .pre), rw (holds left .settings-end (then .if2 .taken)) rows)
-
-same-length-2 : tie.Need-same-length-2
-same-length-2 c = search needs
+list-told-requires : tie.Need-list-told-requires
+unfolding longestListing mostFirstLine mostRowLine mostSizes byteDigits rowDigits numberDigits mostCalls
+list-told-requires c κs = search needs
 
 returns-2 : tie.Need-returns-2
-unfolding callsIn settingsIn netOf part planned
-returns-2 c =
-    let listed = c .before .before in
-    let then = listed .before .before .before .before .before in
-    let left = then .before .before in
-    let read = left .before .before in
-    let text = planned-listing _ _ (read .read .ensures .answer) (left .if1 .left) (then .if2 .taken) in
-    lists (listed .list-accepted .ensures) (rw (holds left .settings-end (then .if2 .taken)) text)
-
-sub-plan-and-list : tie.Need-sub-plan-and-list
-sub-plan-and-list c = omega (arith, holds (c .before .before) .calls-end)
-
-part-plan-and-list-start : tie.Need-part-plan-and-list-start
-part-plan-and-list-start c = omega (arith, holds (c .before .before) .calls-end)
-
-part-plan-and-list-end : tie.Need-part-plan-and-list-end
-part-plan-and-list-end c = let h = holds (c .before .before) in omega (arith, h .settings-inside, h .inside)
-
-plan-and-list-requires : tie.Need-plan-and-list-requires
-unfolding longestListing mostFirstLine mostRowLine mostCalls callsIn part
-plan-and-list-requires c κs =
-    let left = c .before .before .before .before in
-    let read = left .before .before in
-    (omega (arith, read .before .before .before .pre), calls-few _ _ (read .read .ensures .answer) (left .if1 .left))
-
-same-length-3 : tie.Need-same-length-3
-same-length-3 c = search needs
-
-returns-3 : tie.Need-returns-3
-unfolding callsIn netOf part planned
-returns-3 c =
-    let listed = c .before .before in
-    let other = listed .before .before .before in
-    let left = other .before .before in
-    let read = left .before .before in
-    lists (listed .plan-and-list .ensures) (calls-listing _ _ (read .read .ensures .answer) (left .if1 .left) (other .if2 .left))
+returns-2 c = lists (c .list-told .ensures) (told-listing _ (rw longest-is (c .before .before .if1 .left)))
 
 pub list-spec : {M : Type 1} → statement M
 list-spec =
     tie.close
-    (tie.spec
-    read-requires
-    write-refusal-requires
-    same-length
-    returns
-    mul-end
-    add-end
-    sub-list-accepted
-    part-list-accepted-start
-    part-list-accepted-end
-    sub-list-accepted-2
-    part-list-accepted-start-2
-    part-list-accepted-end-2
-    list-accepted-requires
-    same-length-2
-    returns-2
-    sub-plan-and-list
-    part-plan-and-list-start
-    part-plan-and-list-end
-    plan-and-list-requires
-    same-length-3
-    returns-3)
+    (tie.spec slice-aggregate-write-word write-word-requires returns list-told-requires returns-2)

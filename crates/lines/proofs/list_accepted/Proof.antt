@@ -4,10 +4,9 @@ use Prim.Native.Nat.{_≤_}
 use native.Mathlib.Omega.{arith}
 use lib.ListN.{length}
 use borrow.Author.Needs.{needs}
-use Rattle.shelf.specs.Network.{mostCalls}
 use Rattle.shelf.specs.Rows.{rowCount}
 use Rattle.lines.specs.TextLaws.{planned-text-is}
-use Rattle.lines.specs.Writing.{mostFirstLine, mostRowLine, longestListing, adds-both, adds-same, adds-length}
+use Rattle.lines.specs.Writing.{numberDigits, mostSizes, mostFirstLine, longestListing, listing-room, first-line-room, adds-both, adds-same, adds-length}
 use Rattle.lines.proofs.list_accepted.Statement.{statement}
 use Rattle.lines.proofs.list_accepted.Tie as tie
 
@@ -15,30 +14,29 @@ abbrev to-start : tie.After-write-sizes → tie.Start
 to-start c = c .before .before .before .before .before
 
 -- where the sizes end, and the room that is left behind them
-after-sizes : (c : tie.After-write-sizes) → (c .write-sizes .result ≤ 84) × (41072 ≤ length (c .write-sizes .last .0))
-unfolding longestListing mostFirstLine mostRowLine mostCalls
+after-sizes : (c : tie.After-write-sizes) → (c .write-sizes .result ≤ mostSizes) × (longestListing ≤ length (c .write-sizes .last .0))
 after-sizes c =
     let text = c .write-sizes .ensures .0 in
     (c .write-sizes .ensures .1, omega (arith, adds-length text, to-start c .pre .0))
 
 write-sizes-requires : tie.Need-write-sizes-requires
-unfolding longestListing mostFirstLine mostRowLine mostCalls
-write-sizes-requires c κs = omega (arith, c .before .before .before .before .pre .0)
+write-sizes-requires c κs = omega (arith, first-line-room, c .before .before .before .before .pre .0)
 
 slice-aggregate-write-word : tie.Need-slice-aggregate-write-word
 slice-aggregate-write-word c = search needs
 
 write-word-requires : tie.Need-write-word-requires
-write-word-requires c κs = let sizes = c .before .before .before .before in omega (arith, after-sizes sizes)
+unfolding mostFirstLine numberDigits
+write-word-requires c κs = let sizes = c .before .before .before .before in omega (arith, first-line-room, after-sizes sizes)
 
 write-rows-requires : tie.Need-write-rows-requires
-unfolding mostRowLine mostCalls
+unfolding mostFirstLine numberDigits
 write-rows-requires c κs =
     let word = c .before .before .before in
     let sizes = word .before .before .before .before .before in
     let rows = to-start sizes .pre .1 in
     let text = word .write-word .ensures in
-    (omega (arith, rows .few, text .is-next, adds-length text, after-sizes sizes), rows)
+    (omega (arith, listing-room _ (rows .few), text .is-next, adds-length text, after-sizes sizes), rows)
 
 same-length : tie.Need-same-length
 same-length c = search needs

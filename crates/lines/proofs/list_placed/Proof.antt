@@ -4,11 +4,10 @@ use Prim.Native.Nat.{_≤_}
 use native.Mathlib.Omega.{arith}
 use lib.ListN.{length}
 use borrow.Author.Needs.{needs}
-use Rattle.shelf.specs.Network.{mostCalls}
 use Rattle.shelf.specs.Rows.{rowCount}
 use Rattle.lines.specs.Text.{newline, decimal}
 use Rattle.lines.specs.TextLaws.{number-length, table-text-is}
-use Rattle.lines.specs.Writing.{mostFirstLine, mostRowLine, longestListing, adds-both, adds-same, adds-length}
+use Rattle.lines.specs.Writing.{numberDigits, mostSizes, mostFirstLine, longestListing, listing-room, first-line-room, adds-both, adds-same, adds-length}
 use Rattle.lines.proofs.list_placed.Statement.{statement}
 use Rattle.lines.proofs.list_placed.Tie as tie
 
@@ -16,31 +15,31 @@ abbrev to-start : tie.After-write-sizes → tie.Start
 to-start c = c .before .before .before .before .before
 
 -- where the sizes end, and the room that is left behind them
-after-sizes : (c : tie.After-write-sizes) → (c .write-sizes .result ≤ 84) × (41072 ≤ length (c .write-sizes .last .0))
-unfolding longestListing mostFirstLine mostRowLine mostCalls
+after-sizes : (c : tie.After-write-sizes) → (c .write-sizes .result ≤ mostSizes) × (longestListing ≤ length (c .write-sizes .last .0))
 after-sizes c =
     let text = c .write-sizes .ensures .0 in
     (c .write-sizes .ensures .1, omega (arith, adds-length text, to-start c .pre .0))
 
-moved-fits : (c : tie.After-write-sizes) → length (decimal (to-start c .args .moved)) ≤ 20
+moved-fits : (c : tie.After-write-sizes) → length (decimal (to-start c .args .moved)) ≤ numberDigits
 moved-fits c = number-length _ (to-start c .fits .moved .fits)
 
 write-sizes-requires : tie.Need-write-sizes-requires
-unfolding longestListing mostFirstLine mostRowLine mostCalls
-write-sizes-requires c κs = omega (arith, c .before .before .before .before .pre .0)
+write-sizes-requires c κs = omega (arith, first-line-room, c .before .before .before .before .pre .0)
 
 write-number-requires : tie.Need-write-number-requires
-write-number-requires c κs = let sizes = c .before .before .before in omega (arith, after-sizes sizes, moved-fits sizes)
+unfolding mostFirstLine
+write-number-requires c κs = let sizes = c .before .before .before in omega (arith, first-line-room, after-sizes sizes, moved-fits sizes)
 
 write-byte-requires : tie.Need-write-byte-requires
+unfolding mostFirstLine
 write-byte-requires c κs =
     let number = c .before .before .before in
     let sizes = number .before .before .before .before in
     let text = number .write-number .ensures in
-    omega (arith, text .is-next, adds-length text, after-sizes sizes, moved-fits sizes)
+    omega (arith, first-line-room, text .is-next, adds-length text, after-sizes sizes, moved-fits sizes)
 
 write-rows-requires : tie.Need-write-rows-requires
-unfolding mostRowLine mostCalls
+unfolding mostFirstLine numberDigits
 write-rows-requires c κs =
     let byte = c .before .before .before in
     let number = byte .before .before .before .before in
@@ -48,7 +47,7 @@ write-rows-requires c κs =
     let rows = to-start sizes .pre .1 in
     let text = number .write-number .ensures in
     let more = byte .write-byte .ensures in
-    (omega (arith, rows .few, more .is-next, adds-length more, text .is-next, adds-length text, after-sizes sizes, moved-fits sizes), rows)
+    (omega (arith, listing-room _ (rows .few), more .is-next, adds-length more, text .is-next, adds-length text, after-sizes sizes, moved-fits sizes), rows)
 
 same-length : tie.Need-same-length
 same-length c = search needs

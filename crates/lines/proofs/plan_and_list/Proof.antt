@@ -6,7 +6,7 @@ use borrow.Author.Needs.{needs}
 use Rattle.shelf.specs.Network.{mostCalls}
 use Rattle.shelf.specs.Rows.{rowCount}
 use Rattle.lines.specs.Listing.{refused-calls, placed-rows, placed-calls}
-use Rattle.lines.specs.Writing.{mostFirstLine, mostRowLine, longestListing, adds-same}
+use Rattle.lines.specs.Writing.{first-line-room, adds-same}
 use Rattle.lines.proofs.plan_and_list.Statement.{statement}
 use Rattle.lines.proofs.plan_and_list.Tie as tie
 
@@ -20,8 +20,7 @@ plan-requires : tie.Need-plan-requires
 plan-requires c κs = search needs
 
 write-refusal-requires : tie.Need-write-refusal-requires
-unfolding longestListing mostFirstLine mostRowLine mostCalls
-write-refusal-requires c κs = omega (arith, to-start (c .before .before .before .before) .pre .0)
+write-refusal-requires c κs = omega (arith, first-line-room, to-start (c .before .before .before .before) .pre .0)
 
 same-length : tie.Need-same-length
 same-length c = search needs

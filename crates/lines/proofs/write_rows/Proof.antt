@@ -7,7 +7,7 @@ use native.Mathlib.Omega.{arith}
 use borrow.Author.Needs.{needs}
 use Rattle.shelf.specs.Rows.{rowCount}
 use Rattle.lines.specs.Text.{rowLines}
-use Rattle.lines.specs.Writing.{mostRowLine, Adds, adds-none, adds-both, adds-same, adds-length}
+use Rattle.lines.specs.Writing.{byteDigits, rowDigits, mostRowLine, Adds, adds-none, adds-both, adds-same, adds-length}
 use Rattle.lines.proofs.write_rows.Statement.{statement}
 use Rattle.lines.proofs.write_rows.Tie as tie
 
@@ -23,7 +23,7 @@ unfolding rowLines mostRowLine
 loop-holds c = (omega arith, adds-none _ _ (omega arith), omega arith)
 
 write-row-requires : tie.Need-write-row-requires Inv-loop μ-loop
-unfolding mostRowLine rowCount
+unfolding mostRowLine rowDigits byteDigits rowCount
 write-row-requires c κs =
     let start = c .before .before .before .before .before .before in
     let loop = c .before .before .loop in

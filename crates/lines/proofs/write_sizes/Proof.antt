@@ -1,15 +1,15 @@
--- `lines::write_sizes` meets its contract: four numbers, none longer than 20 digits.
+-- `lines::write_sizes` meets its contract: four numbers, each with a space behind it.
 use Prim.Native.Nat.{_≤_}
 use native.Mathlib.Omega.{arith}
 use mathlib.Core.List.{[], _∷_}
 use lib.ListN.{length}
 use Rattle.lines.specs.TextLaws.{number-length, sizes-length}
-use Rattle.lines.specs.Writing.{mostFirstLine, spaced}
+use Rattle.lines.specs.Writing.{mostSizes, mostFirstLine, spaced}
 use borrow.Author.Needs.{needs}
 use Rattle.lines.proofs.write_sizes.Statement.{statement}
 use Rattle.lines.proofs.write_sizes.Tie as tie
 
-sizes : (c : tie.Start) → length (spaced (c .args .n ∷ c .args .m ∷ c .args .r ∷ c .args .count ∷ [])) ≤ 84
+sizes : (c : tie.Start) → length (spaced (c .args .n ∷ c .args .m ∷ c .args .r ∷ c .args .count ∷ [])) ≤ mostSizes
 sizes c =
     sizes-length _ _ _ _ (number-length _ (c .fits .n .fits)) (number-length _ (c .fits .m .fits)) (number-length _ (c .fits .r .fits)) (number-length _ (c .fits .count .fits))
 

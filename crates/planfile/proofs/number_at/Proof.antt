@@ -8,14 +8,14 @@ use Rattle.planfile.proofs.number_at.Tie as tie
 byte-at-requires : tie.Need-byte-at-requires
 byte-at-requires c κs = search needs
 
-mul-result : tie.Need-mul-result
-mul-result c = search needs
-
 add-byte-at : tie.Need-add-byte-at
 add-byte-at c = search needs
 
 byte-at-requires-2 : tie.Need-byte-at-requires-2
 byte-at-requires-2 c κs = search needs
+
+mul-result : tie.Need-mul-result
+mul-result c = search needs
 
 add-result : tie.Need-add-result
 add-result c = search needs
@@ -29,8 +29,8 @@ number-at-spec =
     tie.close
     (tie.spec
     byte-at-requires
-    mul-result
     add-byte-at
     byte-at-requires-2
+    mul-result
     add-result
     returns)

@@ -1,0 +1,3 @@
+pub mod Writer
+pub mod WriterLaws
+pub mod RoundTrips

@@ -1,0 +1,64 @@
+-- What the writers answer and what they leave in the buffer, as functions of their input: one definition for both kinds.
+--   partChecks kind net note calls settings room == 1, 2, 3, 16, 4, then the checks of the rows, for a buffer of `room` bytes
+--   writerVerdict ..      == the answer
+--   writeBuffer ..        == the buffer afterwards
+--   HasRoom kind ..       == what has to hold for the file to be put into the buffer
+--   Writes kind ..        == what the entries guarantee
+use mathlib.Core.Path.{_≡_}
+use mathlib.Core.Bool.{cond}
+use mathlib.Core.List.{List}
+use Prim.Native.Nat.{ℕ, _≤_}
+use lib.Dec.{T, eqb, ltb}
+use lib.ListN.{length}
+use Rattle.shelf.specs.declared.Network.{Network}
+use Rattle.shelf.specs.Network.{withinLimits, mostCalls}
+use Rattle.shelf.specs.Rows.{rowCount}
+use Rattle.shelf.specs.Light.{Lawful}
+use Rattle.calls.specs.declared.Verdict.{Verdict}
+use Rattle.calls.specs.Verdict.{success, refusedIf, _⨾_}
+use Rattle.calls.specs.Table.{sizeChecks, InOrder}
+use Rattle.planfile.specs.File.{planned, mostNote, settingsPerCall, fileOf, front}
+use Rattle.planfile.specs.Checks.{tableChecks}
+
+-- 16: "note to be written above 255 bytes"
+unfoldable pub longNote : List ℕ → Verdict
+longNote note = refusedIf 16 0 (ltb mostNote (length note))
+
+-- 4: "output buffer too short"
+unfoldable pub shortBuffer : ℕ → ℕ → Verdict
+shortBuffer size room = refusedIf 4 0 (ltb room size)
+
+-- "File writer: 1, 2, 3, 16, 4, then as acceptance from 5." "the writer of one is given settings of no bytes, else 2"
+unfoldable pub partChecks : ℕ → Network → List ℕ → List ℕ → List ℕ → ℕ → Verdict
+partChecks kind net note calls settings room =
+    sizeChecks net (length calls) (length settings) (settingsPerCall kind)
+    ⨾ longNote note
+    ⨾ shortBuffer (length (fileOf net kind note calls settings)) room
+    ⨾ tableChecks net kind calls settings
+
+unfoldable pub writerVerdict : ℕ → Network → List ℕ → List ℕ → List ℕ → ℕ → Verdict
+writerVerdict kind net note calls settings room = partChecks kind net note calls settings room ⨾ success (rowCount calls)
+
+-- "All refusals .. write nothing anywhere. Success writes .. exactly the file (writer); bytes beyond keep their values."
+unfoldable pub writeBuffer : ℕ → Network → List ℕ → List ℕ → List ℕ → List ℕ → List ℕ
+writeBuffer kind net note calls settings before =
+    cond (eqb (writerVerdict kind net note calls settings (length before) .number) 0) (front before (fileOf net kind note calls settings)) before
+
+-- sizes within their limits, no more rows than a file can have, and room for the file
+pub record HasRoom (kind : ℕ) (net : Network) (note calls settings : List ℕ) (room : ℕ) : Type 0 where
+  pub limits : T (withinLimits net)
+  pub few : rowCount calls ≤ mostCalls
+  pub enough : length (fileOf net kind note calls settings) ≤ room
+
+pub record Writes (kind : ℕ) (net : Network) (note calls settings before after : List ℕ) (v : Verdict) : Type 0 where
+  -- number and row, and every byte of the buffer, for every input
+  pub answer : v ≡ writerVerdict kind net note calls settings (length before)
+  pub buffer : after ≡ writeBuffer kind net note calls settings before
+  -- a refusal changes no byte; success writes exactly the file, and bytes beyond keep their values
+  pub unchanged : (v .number ≡ 0 → ⊥) → after ≡ before
+  pub written : v .number ≡ 0 → after ≡ front before (fileOf net kind note calls settings)
+  -- "Success is 0, with K in the place of the row"
+  pub tells-K : v .number ≡ 0 → v .row ≡ rowCount calls
+  -- what is written is a table in order, and if planned its settings are lawful
+  pub in-order : v .number ≡ 0 → InOrder net calls
+  pub lawful : v .number ≡ 0 → kind ≡ planned → Lawful net calls settings

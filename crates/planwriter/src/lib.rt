@@ -1,0 +1,141 @@
+// The writers of plan files, one for each kind: any parts are written or refused. How a file is laid out is stated once, by the crate below, and
+// that files read back as written is a law over reader and writers (specs/RoundTrips.antt).
+ghost use mathlib.Core.Path.{_≡_};
+ghost use Prim.Native.Nat.{_≤_, _<_};
+ghost use lib.Dec.{T};
+ghost use lib.ListN.{length};
+ghost use Rattle.shelf.specs.Network.{withinLimits, mostCalls};
+ghost use Rattle.planfile.specs.File.{callsOnly, planned, highByte, lowByte, trailerOf, fileOf, front};
+ghost use Rattle.planwriter.specs.Writer.{partChecks, HasRoom, Writes};
+use calls::Verdict;
+use shelf::Network;
+
+// Writes a calls-only file at the front of `out`: 0 and K, or the first refusal in the order 1, 2, 3, 16, 4, 5, 6, 7. Settings
+// have no bytes, else 2. A refusal changes no byte, and bytes beyond the file keep their values. Nothing is asked of the input.
+pub fn write_calls(
+    net: Network,
+    note: &[u8],
+    calls: &[u8],
+    settings: &[u8],
+    out: &mut [u8],
+) -> Verdict
+    ensures { λ v. ⌜ Writes callsOnly net (now (note .entry)) (now (calls .entry)) (now (settings .entry)) (now (out .entry)) (now (out .exit)) v ⌝ }
+{
+    write(net, planfile::CALLS_ONLY, note, calls, settings, out)
+}
+
+// Writes a planned file in the same way, with 3 bytes of settings for each call: after 7 it tries row by row 9 to 13.
+pub fn write_planned(
+    net: Network,
+    note: &[u8],
+    calls: &[u8],
+    settings: &[u8],
+    out: &mut [u8],
+) -> Verdict
+    ensures { λ v. ⌜ Writes planned net (now (note .entry)) (now (calls .entry)) (now (settings .entry)) (now (out .entry)) (now (out .exit)) v ⌝ }
+{
+    write(net, planfile::PLANNED, note, calls, settings, out)
+}
+
+// Writes a file of this kind, where the checks of its parts pass.
+fn write(
+    net: Network,
+    kind: usize,
+    note: &[u8],
+    calls: &[u8],
+    settings: &[u8],
+    out: &mut [u8],
+) -> Verdict
+    requires { ⌜ kind < 256 ⌝ }
+    ensures { λ v. ⌜ Writes kind net (now (note .entry)) (now (calls .entry)) (now (settings .entry)) (now (out .entry)) (now (out .exit)) v ⌝ }
+{
+    let checked = check_parts(net, kind, note, calls, settings, out.len());
+    if checked.number != 0 {
+        return checked;
+    }
+    put_file(net, kind, note, calls, settings, out);
+    let row = calls.len() / 4;
+    Verdict { number: 0, row }
+}
+
+// Puts the file of these parts at the front of `out`, which has room for it.
+fn put_file(net: Network, kind: usize, note: &[u8], calls: &[u8], settings: &[u8], out: &mut [u8])
+    requires { ⌜ (kind < 256) × HasRoom kind net (now note) (now calls) (now settings) (length (now out)) ⌝ }
+    ensures { λ _. ⌜ now (out .exit) ≡ front (now (out .entry)) (fileOf net kind (now (note .entry)) (now (calls .entry)) (now (settings .entry))) ⌝ }
+{
+    let calls_at = note.len();
+    let settings_at = calls_at + calls.len();
+    let trailer_at = settings_at + settings.len();
+    let trailer = trailer_of(net, kind, calls.len() / 4);
+    planfile::copy_in(note, out, 0);
+    planfile::copy_in(calls, out, calls_at);
+    planfile::copy_in(settings, out, settings_at);
+    planfile::copy_in(&trailer, out, trailer_at);
+}
+
+// The checks of the parts of a file that is to be written, in a writer's order.
+fn check_parts(
+    net: Network,
+    kind: usize,
+    note: &[u8],
+    calls: &[u8],
+    settings: &[u8],
+    room: usize,
+) -> Verdict
+    ensures { λ v. ⌜ v ≡ partChecks kind net (now (note .entry)) (now (calls .entry)) (now (settings .entry)) room ⌝ }
+{
+    let sizes = calls::check_sizes(
+        net,
+        calls.len(),
+        settings.len(),
+        planfile::settings_per_call(kind),
+    );
+    if sizes.number != 0 {
+        return sizes;
+    }
+    let size = note.len() + calls.len() + settings.len() + planfile::TRAILER_LENGTH;
+    if planfile::MOST_NOTE < note.len() {
+        return Verdict { number: 16, row: 0 };
+    }
+    if room < size {
+        return Verdict { number: 4, row: 0 };
+    }
+    planfile::check_table(net, kind, calls, settings)
+}
+
+// The trailer of a file with `count` calls.
+fn trailer_of(net: Network, kind: usize, count: usize) -> [u8; planfile::TRAILER_LENGTH]
+    requires { ⌜ T (withinLimits net) × (kind < 256) × (count ≤ mostCalls) ⌝ }
+    ensures { λ trailer. ⌜ trailer ≡ trailerOf net kind count ⌝ }
+{
+    let settings_back = planfile::settings_distance(kind, count);
+    let calls_back = planfile::calls_distance(kind, count);
+    [
+        net.n as u8,
+        net.m as u8,
+        net.r as u8,
+        kind as u8,
+        high_byte(count),
+        low_byte(count),
+        high_byte(settings_back),
+        low_byte(settings_back),
+        high_byte(calls_back),
+        low_byte(calls_back),
+        planfile::FIRST_MARK,
+        planfile::SECOND_MARK,
+    ]
+}
+
+// The high byte of a two-byte number.
+fn high_byte(value: usize) -> u8
+    ensures { λ byte. ⌜ byte ≡ highByte value ⌝ }
+{
+    (value / 256 % 256) as u8
+}
+
+// The low byte of a two-byte number.
+fn low_byte(value: usize) -> u8
+    ensures { λ byte. ⌜ byte ≡ lowByte value ⌝ }
+{
+    (value % 256) as u8
+}
