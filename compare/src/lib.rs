@@ -1,15 +1,19 @@
-//! Independent answers to the five entries of the shelf's control, and the means to compare two
-//! implementations.
+//! Independent answers to the five entries of the shelf's control, the text of its listing program,
+//! and the means to compare two implementations of the entries.
 //!
 //! Everything here is written from the scope document alone: its sentences, its table of numbers
 //! and its bench table.
 
 pub mod comparison;
+#[cfg(feature = "library")]
+pub mod functions;
 pub mod inputs;
 #[cfg(feature = "library")]
 pub mod library;
+pub mod light;
 pub mod pairs;
 pub mod plain;
+pub mod stack;
 pub mod stored;
 pub mod swift;
 pub mod tables;
@@ -54,9 +58,13 @@ pub const MARK: [u8; 2] = [0x41, 0x57];
 pub const KIND_CALLS: usize = 1;
 /// The kind of a file that holds calls and settings.
 pub const KIND_PLANNED: usize = 2;
+/// Bytes of the longest plan file: the longest note, the most rows of calls and of settings, and the
+/// trailer.
+pub const LONGEST_FILE: usize =
+    LONGEST_NOTE + (CALL_BYTES + SETTING_BYTES) * Network::MOST_ROWS + TRAILER_BYTES;
 
 /// The answer of acceptance and of the two writers.
-#[derive(Clone, Copy, PartialEq, Eq, Debug)]
+#[derive(Clone, Copy, PartialEq, Eq, Default, Debug)]
 #[repr(C)]
 pub struct Verdict {
     pub number: usize,
@@ -64,7 +72,7 @@ pub struct Verdict {
 }
 
 /// The answer of the planner.
-#[derive(Clone, Copy, PartialEq, Eq, Debug)]
+#[derive(Clone, Copy, PartialEq, Eq, Default, Debug)]
 #[repr(C)]
 pub struct Planned {
     pub number: usize,
@@ -73,7 +81,7 @@ pub struct Planned {
 }
 
 /// The answer of the reader. All but number and row are 0 where the file is refused.
-#[derive(Clone, Copy, PartialEq, Eq, Debug)]
+#[derive(Clone, Copy, PartialEq, Eq, Default, Debug)]
 #[repr(C)]
 pub struct Told {
     pub number: usize,

@@ -3,8 +3,8 @@
 //! comes before speed.
 
 use crate::{
-    Entries, Network, Planned, Told, Verdict, CALL_BYTES, KIND_CALLS, KIND_PLANNED, LONGEST_NOTE,
-    MARK, SETTING_BYTES, TRAILER_BYTES,
+    Entries, Network, Planned, Told, Verdict, CALL_BYTES, KIND_CALLS, KIND_PLANNED, LONGEST_FILE,
+    LONGEST_NOTE, MARK, SETTING_BYTES, TRAILER_BYTES,
 };
 
 /// The reference implementation.
@@ -19,7 +19,7 @@ impl Entries for Plain {
                 Planned {
                     number: 0,
                     row: plan.settings.len(),
-                    moved: plan.chains.iter().map(Vec::len).sum(),
+                    moved: plan.moved(),
                 }
             }
             Err(refusal) => Planned {
@@ -103,6 +103,13 @@ struct Setting {
 struct Plan {
     settings: Vec<Setting>,
     chains: Vec<Vec<usize>>,
+}
+
+impl Plan {
+    /// The number of calls changed, summed over all chains.
+    fn moved(&self) -> usize {
+        self.chains.iter().map(Vec::len).sum()
+    }
 }
 
 /// The number of calls on each chain of a plan, in the order of the chains; none where the planner
@@ -600,4 +607,58 @@ fn check_distances(trailer: &Trailer, trailer_at: usize) -> Result<(), Refusal> 
     } else {
         refuse(15, 0)
     }
+}
+
+// The listing program.
+
+/// The text that the listing program prints for a file.
+pub fn listing(file: &[u8]) -> Vec<u8> {
+    if file.len() > LONGEST_FILE {
+        return b"too long\n".to_vec();
+    }
+    let text = match try_list(file) {
+        Ok(text) => text,
+        Err(refusal) => format!("refused {} row {}\n", refusal.number, refusal.row),
+    };
+    text.into_bytes()
+}
+
+/// The listing of a file that isn't refused. Calls only are planned; a planned file has been
+/// accepted when it was read, and is listed with the settings it holds.
+fn try_list(file: &[u8]) -> Result<String, Refusal> {
+    let told = try_read(file)?;
+    let net = Network {
+        n: told.n,
+        m: told.m,
+        r: told.r,
+    };
+    let calls = &file[told.calls_at..told.settings_at];
+    let (moved, settings) = if told.kind == KIND_CALLS {
+        let plan = try_plan(net, calls, SETTING_BYTES * told.count)?;
+        (plan.moved().to_string(), plan.settings)
+    } else {
+        let trailer_at = file.len() - TRAILER_BYTES;
+        let settings = settings_of(&file[told.settings_at..trailer_at]);
+        ("-".to_string(), settings)
+    };
+    let mut text = format!("{} {} {} {} {}\n", net.n, net.m, net.r, told.count, moved);
+    for (row, (call, setting)) in calls_of(calls).iter().zip(&settings).enumerate() {
+        text.push_str(&row_line(row, call, setting));
+    }
+    Ok(text)
+}
+
+/// The line of a row: its number, then the call's numbers with those of the settings between them.
+fn row_line(row: usize, call: &Call, setting: &Setting) -> String {
+    format!(
+        "{} {} {} {} {} {} {} {}\n",
+        row,
+        call.input_module,
+        call.input_channel,
+        setting.x,
+        setting.central,
+        setting.y,
+        call.output_module,
+        call.output_channel
+    )
 }

@@ -1,10 +1,15 @@
 //! Stored inputs with their answers: how they are written, and the list of those that are kept.
 //!
-//! An input has a head of twelve bytes: the entry, n, m and r, then the lengths of note, calls,
-//! settings and room, each high byte first. The bytes of these four follow. A file to be read
-//! stands in the place of the calls, and the settings that the planner is to write stand in the
-//! place of the room. The answer is a line: the numbers, each with a space after it, then the bytes
-//! of the room as they are afterwards, by two hexadecimal digits each.
+//! An input has a head of 33 bytes: the entry by one byte; n, m and r by eight bytes each; the
+//! lengths of note, calls, settings and room by two bytes each; all with the high byte first. The
+//! bytes of these four follow. The entries are 0 plan, 1 accept, 2 read, 3 write_calls,
+//! 4 write_planned and 5 list. A file to be read or listed stands in the place of the calls, and the
+//! settings that the planner is to write stand in the place of the room.
+//!
+//! The answer is a line: the numbers, each with a space after it, then the bytes of the room as they
+//! are afterwards, by two hexadecimal digits each. For a file to be listed the numbers are the length
+//! of the text and how many bytes of its buffer beyond the text were changed, which is always 0, and
+//! the bytes are those of the text.
 
 use crate::comparison::answer_of;
 use crate::inputs::{
@@ -14,17 +19,36 @@ use crate::inputs::{
 use crate::pairs::{
     filled, input_with, input_with_in_one_row, is_of_settings, is_sought_in_rows, Asked, Fault,
 };
-use crate::plain::Plain;
+use crate::plain::{listing, Plain};
 use crate::{
     Entries, Network, CALL_BYTES, KIND_CALLS, KIND_PLANNED, LONGEST_NOTE, MARK, SETTING_BYTES,
     TRAILER_BYTES,
 };
 use std::fmt::Write;
 
+mod light;
+mod listings;
+mod worked;
+
+use self::light::light;
+use self::listings::listings;
+use self::worked::worked;
+
 // How an input and its answer are written.
 
-/// The four parts of an input in their stored order, after its sizes.
+/// A stored input: of one of the five entries, or a file for the listing program, which is no entry.
+#[derive(Clone, PartialEq, Eq, Debug)]
+pub enum Stored {
+    Asked(Input),
+    List { file: Vec<u8> },
+}
+
+/// The listing program's number among the entries of stored inputs.
+const LIST: u8 = 5;
+
+/// The head's entry and sizes, and the four parts of an input in their stored order.
 struct Parts<'a> {
+    entry: u8,
     net: Network,
     note: &'a [u8],
     calls: &'a [u8],
@@ -32,18 +56,35 @@ struct Parts<'a> {
     room: &'a [u8],
 }
 
-fn parts_of(input: &Input) -> Parts<'_> {
-    let none: &[u8] = &[];
+/// A file alone, in the place of the calls.
+fn parts_of_file(entry: u8, file: &[u8]) -> Parts<'_> {
+    Parts {
+        entry,
+        net: network(0, 0, 0),
+        note: &[],
+        calls: file,
+        settings: &[],
+        room: &[],
+    }
+}
+
+fn parts_of(stored: &Stored) -> Parts<'_> {
+    let input = match stored {
+        Stored::Asked(input) => input,
+        Stored::List { file } => return parts_of_file(LIST, file),
+    };
+    let entry = input.entry() as u8;
     match input {
         Input::Plan {
             net,
             calls,
             settings,
         } => Parts {
+            entry,
             net: *net,
-            note: none,
+            note: &[],
             calls,
-            settings: none,
+            settings: &[],
             room: settings,
         },
         Input::Accept {
@@ -51,19 +92,14 @@ fn parts_of(input: &Input) -> Parts<'_> {
             calls,
             settings,
         } => Parts {
+            entry,
             net: *net,
-            note: none,
+            note: &[],
             calls,
             settings,
-            room: none,
+            room: &[],
         },
-        Input::Read { file } => Parts {
-            net: Network { n: 0, m: 0, r: 0 },
-            note: none,
-            calls: file,
-            settings: none,
-            room: none,
-        },
+        Input::Read { file } => parts_of_file(entry, file),
         Input::WriteCalls {
             net,
             note,
@@ -78,6 +114,7 @@ fn parts_of(input: &Input) -> Parts<'_> {
             settings,
             out,
         } => Parts {
+            entry,
             net: *net,
             note,
             calls,
@@ -87,12 +124,12 @@ fn parts_of(input: &Input) -> Parts<'_> {
     }
 }
 
-/// The bytes of a stored input; none where a size doesn't fit a byte, or a length two.
-pub fn stored_input(input: &Input) -> Option<Vec<u8>> {
-    let parts = parts_of(input);
-    let mut bytes = vec![input.entry() as u8];
+/// The bytes of a stored input; none where a length doesn't fit two bytes. Sizes are stored whole.
+pub fn stored_input(stored: &Stored) -> Option<Vec<u8>> {
+    let parts = parts_of(stored);
+    let mut bytes = vec![parts.entry];
     for size in [parts.net.n, parts.net.m, parts.net.r] {
-        bytes.push(u8::try_from(size).ok()?);
+        bytes.extend((size as u64).to_be_bytes());
     }
     let contents = [parts.note, parts.calls, parts.settings, parts.room];
     for content in contents {
@@ -102,29 +139,40 @@ pub fn stored_input(input: &Input) -> Option<Vec<u8>> {
     Some(bytes)
 }
 
-/// The line that answers an input.
-pub fn stored_answer(entries: &dyn Entries, input: &Input) -> String {
-    let (answer, room) = answer_of(entries, input);
+/// The line that answers an input, by the plain implementation.
+pub fn stored_answer(stored: &Stored) -> String {
+    match stored {
+        Stored::Asked(input) => {
+            let (answer, room) = answer_of(&Plain, input);
+            answer_line(&answer.numbers(), &room)
+        }
+        Stored::List { file } => {
+            let text = listing(file);
+            answer_line(&[text.len(), 0], &text)
+        }
+    }
+}
+
+fn answer_line(numbers: &[usize], bytes: &[u8]) -> String {
     let mut line = String::new();
-    for number in answer.numbers() {
+    for number in numbers {
         write!(line, "{} ", number).expect("a string takes all that is written");
     }
-    for byte in room {
+    for byte in bytes {
         write!(line, "{:02x}", byte).expect("a string takes all that is written");
     }
     line.push('\n');
     line
 }
 
-/// Both files of a list of inputs, the answers by the plain implementation. Inputs that can't be
-/// stored are left out.
-pub fn stored_files(inputs: &[Input]) -> (Vec<u8>, String) {
+/// Both files of a list of inputs. Inputs that can't be stored are left out.
+pub fn stored_files(inputs: &[Stored]) -> (Vec<u8>, String) {
     let mut questions = Vec::new();
     let mut answers = String::new();
-    for input in inputs {
-        if let Some(bytes) = stored_input(input) {
+    for stored in inputs {
+        if let Some(bytes) = stored_input(stored) {
             questions.extend(bytes);
-            answers.push_str(&stored_answer(&Plain, input));
+            answers.push_str(&stored_answer(stored));
         }
     }
     (questions, answers)
@@ -379,8 +427,15 @@ pub fn first_in_order(order: &[usize], applies: &[Applies]) -> Option<Applies> {
 
 // The list.
 
-/// All stored inputs.
-pub fn stored_inputs() -> Vec<Input> {
+/// All stored inputs: those of the entries, then the files to be listed.
+pub fn stored_inputs() -> Vec<Stored> {
+    let asked = asked_inputs().into_iter().map(Stored::Asked);
+    let listed = listings().into_iter().map(|file| Stored::List { file });
+    asked.chain(listed).collect()
+}
+
+/// The stored inputs of the five entries.
+fn asked_inputs() -> Vec<Input> {
     let groups = [
         bench_table(),
         document_004_tables(),
@@ -391,9 +446,23 @@ pub fn stored_inputs() -> Vec<Input> {
         faults_in_one_row(),
         files(),
         damaged_files(),
+        light(),
+        wide_sizes(),
+        worked(),
         drawn(),
     ];
-    groups.concat()
+    without_repeats(groups.concat())
+}
+
+/// The list without inputs that stand in it before in just the same form.
+fn without_repeats(inputs: Vec<Input>) -> Vec<Input> {
+    let mut kept: Vec<Input> = Vec::new();
+    for input in inputs {
+        if !kept.contains(&input) {
+            kept.push(input);
+        }
+    }
+    kept
 }
 
 fn network(n: usize, m: usize, r: usize) -> Network {
@@ -479,7 +548,8 @@ fn bench_table() -> Vec<Input> {
     ]
 }
 
-/// The calls of document 004's Table I, 4-4-3: planned without a chain.
+/// The calls of document 004's Table I, 4-4-3, with the output modules that its wavelengths lead to:
+/// planned without a chain, with the settings that stand there.
 pub const TABLE_ONE: [u8; 48] = [
     0, 0, 0, 0, 0, 1, 1, 0, 0, 2, 0, 1, 0, 3, 2, 0, 1, 0, 1, 1, 1, 1, 0, 2, 1, 2, 2, 1, 1, 3, 0, 3,
     2, 0, 2, 2, 2, 1, 2, 3, 2, 2, 1, 2, 2, 3, 1, 3,
@@ -569,6 +639,7 @@ fn limits_and_lengths() -> Vec<Input> {
     for net in sizes {
         list.push(plan_roomy(net, &[0, 0, 0, 0]));
         list.push(accept(net, &[0, 0, 0, 0], &[0, 0, 0]));
+        list.push(accept(net, &[], &[]));
         list.push(write_calls(net, &[9], &[0, 0, 0, 0], 20));
         list.push(write_planned(net, &[9], &[0, 0, 0, 0], &[0, 0, 0], 23));
         list.push(read_of(KIND_CALLS, net, &[9], &[0, 0, 0, 0], &[]));
@@ -923,13 +994,36 @@ fn add_changed_trailers(list: &mut Vec<Input>, file: &[u8]) {
     }
 }
 
+/// Sizes that would be within their limits, or 0, if they were cut to 8, 16 or 32 bits, and the
+/// highest numbers: each size in turn, the others small. All are refused by 1.
+fn wide_sizes() -> Vec<Input> {
+    let wide = [256, 257, (1 << 16) + 1, (1 << 32) + 1, 1 << 63, usize::MAX];
+    let mut list = Vec::new();
+    for size in wide {
+        for net in [
+            network(size, 2, 2),
+            network(2, size, 2),
+            network(2, 2, size),
+        ] {
+            let call = [0, 0, 0, 0];
+            let setting = [0, 0, 0];
+            list.push(plan_roomy(net, &call));
+            list.push(accept(net, &call, &setting));
+            list.push(write_calls(net, &[9], &call, 20));
+            list.push(write_planned(net, &[9], &call, &setting, 23));
+        }
+    }
+    list
+}
+
 /// A hundred and fifty drawn inputs of no more than six hundred bytes.
 fn drawn() -> Vec<Input> {
     let mut random = Random::seeded(150);
     let mut list = Vec::new();
     while list.len() < 150 {
         let input = draw(&mut random);
-        if stored_input(&input).map_or(false, |bytes| bytes.len() <= 600) {
+        let stored = stored_input(&Stored::Asked(input.clone()));
+        if stored.map_or(false, |bytes| bytes.len() <= 600) {
             list.push(input);
         }
     }
@@ -972,12 +1066,49 @@ mod tests {
     }
 
     #[test]
+    fn heads_hold_whole_sizes() {
+        let input = Input::WritePlanned {
+            net: network(3, 1 << 63, 65_537),
+            note: vec![7],
+            calls: vec![8; 258],
+            settings: vec![],
+            out: vec![9, 10],
+        };
+        let bytes = stored_input(&Stored::Asked(input)).expect("every length fits two bytes");
+        let head = [
+            4, 0, 0, 0, 0, 0, 0, 0, 3, 128, 0, 0, 0, 0, 0, 0, 0, 0, 0, 0, 0, 0, 1, 0, 1, 0, 1, 1,
+            2, 0, 0, 0, 2,
+        ];
+        assert_eq!(bytes[..33], head);
+        assert_eq!(bytes[33..], [&[7][..], &[8; 258], &[9, 10]].concat());
+    }
+
+    #[test]
+    fn files_to_be_listed_stand_in_the_place_of_the_calls() {
+        let stored = Stored::List { file: vec![6] };
+        let bytes = stored_input(&stored).expect("every length fits two bytes");
+        assert_eq!(bytes[..25], [&[5][..], &[0; 24]].concat());
+        assert_eq!(bytes[25..], [0, 0, 0, 1, 0, 0, 0, 0, 6]);
+        let text = b"refused 14 row 0\n";
+        let digits: String = text.iter().map(|byte| format!("{:02x}", byte)).collect();
+        assert_eq!(stored_answer(&stored), format!("17 0 {}\n", digits));
+    }
+
+    #[test]
     fn stored_files_keep_to_their_sizes() {
         let inputs = stored_inputs();
         let (questions, answers) = stored_files(&inputs);
         assert_eq!(answers.lines().count(), inputs.len());
-        assert!(questions.len() < 700_000, "{}", questions.len());
-        assert!(answers.len() < 500_000, "{}", answers.len());
+        assert!(questions.len() < 1_200_000, "{}", questions.len());
+        assert!(answers.len() < 700_000, "{}", answers.len());
+    }
+
+    #[test]
+    fn wide_sizes_are_refused() {
+        for input in wide_sizes() {
+            let (answer, _) = answer_of(&Plain, &input);
+            assert_eq!((answer.number(), answer.row()), (1, 0), "{:?}", input);
+        }
     }
 
     /// The faults that apply decide every stored answer, and the drawn ones.
@@ -985,7 +1116,7 @@ mod tests {
     fn faults_decide_the_answers() {
         let mut random = Random::seeded(7);
         let drawn = (0..3000).map(|_| draw(&mut random));
-        for input in stored_inputs().into_iter().chain(drawn) {
+        for input in asked_inputs().into_iter().chain(drawn) {
             let order: &[usize] = match &input {
                 Input::Plan { .. } => Asked::Plan.order(),
                 Input::Accept { .. } => Asked::Accept.order(),

@@ -1,8 +1,8 @@
 //! The plain implementation on the bench table and on the example file of document 01, with the
 //! answers as they stand there.
 
-use compare::plain::Plain;
-use compare::{Entries, Network, Planned, Told, Verdict};
+use compare::plain::{listing, Plain};
+use compare::{Entries, Network, Planned, Told, Verdict, LONGEST_FILE};
 
 const CASE_3: [u8; 16] = [0, 0, 0, 0, 1, 0, 1, 0, 1, 1, 0, 1, 0, 1, 1, 1];
 const CASE_4: [u8; 16] = [0, 0, 0, 0, 0, 1, 1, 0, 1, 0, 2, 0, 1, 1, 1, 1];
@@ -113,4 +113,23 @@ fn example_file_is_read_and_written() {
     let answer = Plain.write_calls(network(2, 2, 3), &[], &CASE_4, &[], &mut out);
     assert_eq!(answer, Verdict { number: 0, row: 4 });
     assert_eq!(out, file);
+}
+
+#[test]
+fn example_file_is_listed() {
+    let trailer = [2, 2, 3, 1, 0, 4, 0, 0, 0, 0x10, 0x41, 0x57];
+    let text = listing(&[&CASE_4[..], &trailer].concat());
+    let owed = "2 2 3 4 2\n\
+                0 0 0 1 1 1 0 0\n\
+                1 0 1 0 0 1 1 0\n\
+                2 1 0 1 0 2 2 0\n\
+                3 1 1 2 1 2 1 1\n";
+    assert_eq!(text, owed.as_bytes());
+}
+
+#[test]
+fn files_longer_than_the_longest_are_too_long() {
+    assert_eq!(LONGEST_FILE, 7435);
+    assert_eq!(listing(&[0; 7435]), b"refused 14 row 0\n");
+    assert_eq!(listing(&[0; 7436]), b"too long\n");
 }

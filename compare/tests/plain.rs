@@ -1,11 +1,10 @@
-//! Independent checks of the plain implementation: settings are followed link by link, the moved
-//! count is counted from outside, and files go to and fro.
+//! Independent checks of the plain implementation: the moved count is counted from outside, and
+//! files go to and fro. What the light does is checked in `light.rs`.
 
 use compare::inputs::{calls_of_pairs, draw, ladder, path, Input, Random};
 use compare::plain::{chain_lengths, Plain};
 use compare::stored::largest_ladder;
 use compare::{Entries, Network};
-use std::collections::HashSet;
 
 /// Fewer inputs where the code is compiled without speed.
 const DRAWN: usize = if cfg!(debug_assertions) {
@@ -19,114 +18,7 @@ fn drawn(seed: u64) -> impl Iterator<Item = Input> {
     (0..DRAWN).map(move |_| draw(&mut random))
 }
 
-// The light.
-
-/// A link that carries a wavelength: its kind, its place, the wavelength.
-type Lit = (&'static str, usize, usize);
-
-/// The port at which a wavelength leaves a grating.
-fn grating(wavelength: usize, entered: usize, cycle: usize) -> usize {
-    (wavelength + 10 * cycle - entered) % cycle
-}
-
-/// The links that the light of a row passes, or none where it is lost, arrives elsewhere, or has no
-/// such wavelength.
-fn links(net: Network, call: &[u8], setting: &[u8]) -> Option<[Lit; 4]> {
-    let cycle = net.r.max(net.m);
-    let [input, output] = [usize::from(call[0]), usize::from(call[2])];
-    let [x, central, y] = [
-        usize::from(setting[0]),
-        usize::from(setting[1]),
-        usize::from(setting[2]),
-    ];
-    if x >= cycle || y >= cycle {
-        return None;
-    }
-    let entered = grating(x, input, cycle);
-    if entered >= net.m || entered != central {
-        return None;
-    }
-    let left = grating(y, entered, cycle);
-    if left >= net.r || left != output {
-        return None;
-    }
-    Some([
-        ("input module to first grating", input, x),
-        ("first grating to central", entered, x),
-        ("central to second grating", entered, y),
-        ("second grating to output module", left, y),
-    ])
-}
-
-/// Whether all light arrives and no two rows share a link and its wavelength.
-fn is_lawful(net: Network, calls: &[u8], settings: &[u8]) -> bool {
-    let mut lit = HashSet::new();
-    calls
-        .chunks_exact(4)
-        .zip(settings.chunks_exact(3))
-        .all(|(call, setting)| match links(net, call, setting) {
-            Some(passed) => passed.iter().all(|link| lit.insert(*link)),
-            None => false,
-        })
-}
-
-#[test]
-fn accepted_settings_are_those_that_light_follows() {
-    let mut accepted = 0;
-    let mut refused = 0;
-    for input in drawn(11) {
-        if let Input::Accept {
-            net,
-            calls,
-            settings,
-        } = input
-        {
-            match Plain.accept(net, &calls, &settings).number {
-                0 => {
-                    assert!(is_lawful(net, &calls, &settings));
-                    accepted += 1;
-                }
-                9..=13 => {
-                    assert!(!is_lawful(net, &calls, &settings));
-                    refused += 1;
-                }
-                _ => {}
-            }
-        }
-    }
-    assert!(accepted > DRAWN / 50 && refused > DRAWN / 50);
-}
-
-/// Whether some module of either side has more calls than there are centrals.
-fn is_overfull(net: Network, calls: &[u8]) -> bool {
-    (0..net.r).any(|module| {
-        [0, 2].iter().any(|&side| {
-            calls
-                .chunks_exact(4)
-                .filter(|call| usize::from(call[side]) == module)
-                .count()
-                > net.m
-        })
-    })
-}
-
-#[test]
-fn planned_settings_are_accepted_unless_a_module_is_overfull() {
-    for input in drawn(12) {
-        if let Input::Plan { net, calls, .. } = input {
-            let mut settings = vec![0; 3 * (calls.len() / 4)];
-            match Plain.plan(net, &calls, &mut settings).number {
-                0 => {
-                    assert!(!is_overfull(net, &calls));
-                    assert_eq!(Plain.accept(net, &calls, &settings).number, 0);
-                    assert!(is_lawful(net, &calls, &settings));
-                }
-                8 => assert!(is_overfull(net, &calls)),
-                _ => {}
-            }
-        }
-    }
-}
+// The moved count.
 
 /// Plans a table without its last row, and counts the earlier rows on another central: summed over
 /// all tables that begin this one, these are the calls moved.
@@ -237,11 +129,8 @@ fn files_written_and_read_tell_what_was_written() {
                 settings,
                 mut out,
             } => {
-                if Plain
-                    .write_calls(net, &note, &calls, &settings, &mut out)
-                    .number
-                    == 0
-                {
+                let answer = Plain.write_calls(net, &note, &calls, &settings, &mut out);
+                if answer.number == 0 {
                     assert_told(1, net, [&note, &calls, &settings], &out);
                 }
             }
@@ -252,11 +141,8 @@ fn files_written_and_read_tell_what_was_written() {
                 settings,
                 mut out,
             } => {
-                if Plain
-                    .write_planned(net, &note, &calls, &settings, &mut out)
-                    .number
-                    == 0
-                {
+                let answer = Plain.write_planned(net, &note, &calls, &settings, &mut out);
+                if answer.number == 0 {
                     assert_told(2, net, [&note, &calls, &settings], &out);
                 }
             }

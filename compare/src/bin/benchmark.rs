@@ -1,16 +1,18 @@
 //! Times the proved library against the implementation written for speed by the same method, on the
 //! same inputs in the same run. On each input the two take turns, and the least time of many turns
-//! counts for each. Prints, in Markdown, the times, the growth of the planner with K, and the stack
-//! that a call touches.
+//! counts for each. Prints, in Markdown, the times, the growth of the planner with K, the stack that
+//! a call touches below its caller's frame, and the most of it over all inputs.
 //!
 //! `benchmark count SIDE CALL TABLE TIMES` makes one call so often and prints nothing else: for a
 //! counter of instructions, by the difference of two runs. SIDE is `library` or `rust`, CALL and
 //! TABLE are places in the lists of `tables.rs`.
 
+use compare::functions::{Nothing, EMPTY, LIBRARY};
 use compare::library::Library;
+use compare::stack::below_caller;
 use compare::swift::Swift;
 use compare::tables::{growing, tables, Table, Timed, TIMED};
-use compare::Entries;
+use compare::{Entries, LONGEST_FILE};
 use std::time::{Duration, Instant};
 
 /// How often the two take turns on an input.
@@ -18,9 +20,6 @@ const TURNS: usize = 60;
 
 /// The least time of one turn: short calls are repeated until it is reached.
 const TURN: Duration = Duration::from_micros(2000);
-
-/// Room for all that is written.
-const ROOM: usize = 7435;
 
 fn main() {
     let arguments: Vec<String> = std::env::args().skip(1).collect();
@@ -54,7 +53,7 @@ fn side(name: &str) -> &'static dyn Entries {
 
 /// Makes one call so often.
 fn repeat(entries: &dyn Entries, timed: Timed, table: &Table, times: usize) {
-    let mut room = [0; ROOM];
+    let mut room = [0; LONGEST_FILE];
     for _ in 0..times {
         let number = timed.1(entries, table, &mut room);
         assert_eq!(number, 0, "{} is not refused", timed.0);
@@ -130,51 +129,72 @@ fn shown(time: Duration) -> String {
     format!("{:.1} µs", time.as_secs_f64() * 1e6)
 }
 
-// The stack: a region below the caller is painted, the call is made, and what it changed is sought.
+// The stack.
+
+/// An implementation and one that does nothing, both called by the same code.
+struct Side {
+    called: &'static (dyn Entries + Sync),
+    empty: &'static (dyn Entries + Sync),
+}
+
+/// The library by its functions for C, and the other by its functions in Rust.
+const SIDES: [Side; 2] = [
+    Side {
+        called: &LIBRARY,
+        empty: &EMPTY,
+    },
+    Side {
+        called: &Swift,
+        empty: &Nothing,
+    },
+];
 
 fn show_stack() {
     println!("| input | call | library | Rust |");
     println!("|---|---|---|---|");
+    let mut most = [[0; 2]; TIMED.len()];
     for table in &tables() {
-        for timed in [TIMED[0], TIMED[1]] {
+        for (timed, most) in TIMED.into_iter().zip(&mut most) {
+            let [library, swift] = SIDES.map(|side| stack_below_caller(side, timed, table));
             println!(
                 "| {} | {} | {} bytes | {} bytes |",
-                table.name,
-                timed.0,
-                stack_touched(&Library, timed, table),
-                stack_touched(&Swift, timed, table)
+                table.name, timed.0, library, swift
             );
+            *most = [most[0].max(library), most[1].max(swift)];
         }
     }
+    println!();
+    show_most_stack(&most);
 }
 
-const PAINTED: usize = 65536;
-
-const PAINT: u8 = 0xa5;
-
-/// How far below this function's own frame a call reaches, by the deepest byte that it changed.
-fn stack_touched(entries: &dyn Entries, timed: Timed, table: &Table) -> usize {
-    let mut room = vec![0; ROOM];
-    paint_stack();
-    timed.1(entries, table, &mut room);
-    unpainted()
-}
-
-#[inline(never)]
-fn paint_stack() {
-    let mut region = [0u8; PAINTED];
-    for byte in region.iter_mut() {
-        unsafe { std::ptr::write_volatile(byte, PAINT) };
+/// The most of all tables, for each call.
+fn show_most_stack(most: &[[usize; 2]]) {
+    println!("| call | library | Rust |");
+    println!("|---|---|---|");
+    for (timed, [library, swift]) in TIMED.into_iter().zip(most) {
+        println!("| {} | {} bytes | {} bytes |", timed.0, library, swift);
     }
 }
 
-#[inline(never)]
-fn unpainted() -> usize {
-    let region = std::mem::MaybeUninit::<[u8; PAINTED]>::uninit();
-    let start = region.as_ptr() as *const u8;
-    // The region is that of `paint_stack`, whose bytes are still there or were changed since.
-    let kept = (0..PAINTED)
-        .take_while(|&place| unsafe { std::ptr::read_volatile(start.add(place)) } == PAINT)
-        .count();
-    PAINTED - kept
+/// How far a call reaches below its caller's frame.
+fn stack_below_caller(side: Side, timed: Timed, table: &Table) -> usize {
+    // Once before, so that nothing is left to be done at a first call.
+    repeat(side.called, timed, table, 1);
+    let mut rooms = [[0; LONGEST_FILE]; 2];
+    let [room, other_room] = &mut rooms;
+    let mut call = call_of(side.called, timed, table, room);
+    let mut empty = call_of(side.empty, timed, table, other_room);
+    below_caller(&mut call, &mut empty)
+}
+
+/// A call with all that is handed to it.
+fn call_of<'a>(
+    entries: &'a (dyn Entries + Sync),
+    timed: Timed,
+    table: &'a Table,
+    room: &'a mut [u8],
+) -> impl FnMut() + Send + 'a {
+    move || {
+        timed.1(entries, table, room);
+    }
 }

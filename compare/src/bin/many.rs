@@ -1,10 +1,9 @@
 //! Writes COUNT drawn inputs and their answers as the files `many.in` and `many.out` of a
-//! directory. Inputs with a size that doesn't fit a byte, or a length that doesn't fit two, are
-//! drawn anew.
+//! directory. Inputs with a length that doesn't fit two bytes are drawn anew, and a file to be read
+//! is now and then listed instead.
 
-use compare::inputs::{draw, Random};
-use compare::plain::Plain;
-use compare::stored::{stored_answer, stored_input};
+use compare::inputs::{draw, Input, Random};
+use compare::stored::{stored_answer, stored_input, Stored};
 use std::fs::File;
 use std::io::{BufWriter, Write};
 use std::path::Path;
@@ -31,13 +30,21 @@ fn write_many(seed: u64, count: usize, directory: &Path) -> std::io::Result<()> 
     let mut answers = BufWriter::new(File::create(directory.join("many.out"))?);
     let mut written = 0;
     while written < count {
-        let input = draw(&mut random);
-        if let Some(bytes) = stored_input(&input) {
+        let stored = draw_stored(&mut random);
+        if let Some(bytes) = stored_input(&stored) {
             questions.write_all(&bytes)?;
-            answers.write_all(stored_answer(&Plain, &input).as_bytes())?;
+            answers.write_all(stored_answer(&stored).as_bytes())?;
             written += 1;
         }
     }
     questions.flush()?;
     answers.flush()
+}
+
+/// A drawn input of an entry, or a file that was drawn for the reader and is to be listed.
+fn draw_stored(random: &mut Random) -> Stored {
+    match draw(random) {
+        Input::Read { file } if random.once_in(2) => Stored::List { file },
+        input => Stored::Asked(input),
+    }
 }

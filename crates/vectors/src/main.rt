@@ -1,13 +1,17 @@
 // Stored inputs, answered by the compiled entries: what is printed is compared with the answers of an independent
-// implementation. An input has a head of twelve bytes: the entry, n, m and r, then the lengths of note, calls, settings and
-// room, each high byte first. The bytes of these four follow. A file to be read stands in the place of the calls. For each
-// input a line is printed: the numbers that the entry answers, then each byte of the room as the entry left it.
+// implementation. An input has a head of 33 bytes: the entry by one byte, n, m and r by eight bytes each, then the lengths of note,
+// calls, settings and room by two bytes each, all with the high byte first. The bytes of these four follow. A file to be read or
+// listed stands in the place of the calls. For each input a line is printed: the numbers that the entry answers, then each byte of
+// the room as the entry left it. Of a listing the numbers are the length of the text and how many bytes beyond it were changed in
+// the buffer, and the bytes are those of the text.
+ghost use Prim.Native.Nat.{_+_, _≤_};
+ghost use lib.ListN.{length};
 use calls::Verdict;
 use libc::STDIN_FILENO;
 use libc::STDOUT_FILENO;
 use shelf::Network;
 
-// The entries, by the first byte of an input.
+// The entries, by the first byte of an input. Any other byte is a planned file to be written.
 const PLAN: u8 = 0;
 
 const ACCEPT: u8 = 1;
@@ -15,6 +19,31 @@ const ACCEPT: u8 = 1;
 const READ: u8 = 2;
 
 const WRITE_CALLS: u8 = 3;
+
+const LIST: u8 = 5;
+
+// Where in a head n, m, r and the lengths of note, calls, settings and room stand, and the bytes of the whole head.
+const N_AT: usize = 1;
+
+const M_AT: usize = 9;
+
+const R_AT: usize = 17;
+
+const NOTE_AT: usize = 25;
+
+const CALLS_AT: usize = 27;
+
+const SETTINGS_AT: usize = 29;
+
+const ROOM_AT: usize = 31;
+
+const HEAD: usize = 33;
+
+// How many numbers two bytes can tell.
+const PAIRS: usize = 65536;
+
+// What the buffer of a listing holds before: no byte of a text.
+const FILLED: u8 = 0xA5;
 
 // More inputs than these are not answered.
 const MOST_INPUTS: usize = 65536;
@@ -34,14 +63,14 @@ fn main() {
 
 // Answers the next input; false where none is left, or none that the two buffers have place for.
 fn answer_next(parts: &mut [u8], room: &mut [u8]) -> bool {
-    let mut head = [0u8; 12];
+    let mut head = [0u8; HEAD];
     if !fill(&mut head) {
         return false;
     }
-    let note_end = planfile::number_at(&head, 4);
-    let calls_end = note_end + planfile::number_at(&head, 6);
-    let settings_end = calls_end + planfile::number_at(&head, 8);
-    let room_end = planfile::number_at(&head, 10);
+    let note_end = planfile::number_at(&head, NOTE_AT);
+    let calls_end = note_end + planfile::number_at(&head, CALLS_AT);
+    let settings_end = calls_end + planfile::number_at(&head, SETTINGS_AT);
+    let room_end = planfile::number_at(&head, ROOM_AT);
     if parts.len() < settings_end {
         return false;
     }
@@ -56,9 +85,9 @@ fn answer_next(parts: &mut [u8], room: &mut [u8]) -> bool {
         return false;
     }
     let net = Network {
-        n: shelf::byte_at(&head, 1),
-        m: shelf::byte_at(&head, 2),
-        r: shelf::byte_at(&head, 3),
+        n: size_at(&head, N_AT),
+        m: size_at(&head, M_AT),
+        r: size_at(&head, R_AT),
     };
     let whole = &parts[..];
     answer(
@@ -77,6 +106,17 @@ fn fill(buffer: &mut [u8]) -> bool {
     io::read_full(STDIN_FILENO, buffer) == buffer.len()
 }
 
+// The size that stands at a place of a head: eight bytes, the high byte first.
+fn size_at(bytes: &[u8], at: usize) -> usize
+    requires { ⌜ at + 8 ≤ length (now bytes) ⌝ }
+{
+    let highest = planfile::number_at(bytes, at);
+    let high = planfile::number_at(bytes, at + 2);
+    let low = planfile::number_at(bytes, at + 4);
+    let lowest = planfile::number_at(bytes, at + 6);
+    ((highest * PAIRS + high) * PAIRS + low) * PAIRS + lowest
+}
+
 // Lets the entry answer, and prints the line.
 fn answer(entry: u8, net: Network, note: &[u8], calls: &[u8], settings: &[u8], room: &mut [u8]) {
     if entry == PLAN {
@@ -92,11 +132,36 @@ fn answer(entry: u8, net: Network, note: &[u8], calls: &[u8], settings: &[u8], r
         return end_line(room);
     }
     if entry == WRITE_CALLS {
-        show_verdict(planfile::write_calls(net, note, calls, settings, room));
+        show_verdict(planwriter::write_calls(net, note, calls, settings, room));
         return end_line(room);
     }
-    show_verdict(planfile::write_planned(net, note, calls, settings, room));
+    if entry == LIST {
+        return show_listing(calls);
+    }
+    show_verdict(planwriter::write_planned(net, note, calls, settings, room));
     end_line(room);
+}
+
+// Prints the line of a listing.
+fn show_listing(file: &[u8]) {
+    let mut text = [FILLED; lines::LONGEST_LISTING];
+    let size = lines::list(file, &mut text);
+    show(size);
+    show(changed(&text[size..]));
+    end_line(&text[..size]);
+}
+
+// How many bytes are not as the buffer of a listing was filled.
+fn changed(bytes: &[u8]) -> usize {
+    let mut count = 0;
+    let mut i = 0;
+    while i < bytes.len() {
+        if bytes[i] != FILLED {
+            count += 1;
+        }
+        i += 1;
+    }
+    count
 }
 
 // Prints number, row and moved count.
@@ -132,11 +197,11 @@ fn show(number: usize) {
     io::write_all(STDOUT_FILENO, b" ");
 }
 
-// Prints the bytes of the room, each by two hexadecimal digits, and ends the line.
-fn end_line(room: &[u8]) {
+// Prints bytes, each by two hexadecimal digits, and ends the line.
+fn end_line(bytes: &[u8]) {
     let mut i = 0;
-    while i < room.len() {
-        show_byte(room[i]);
+    while i < bytes.len() {
+        show_byte(bytes[i]);
         i += 1;
     }
     io::write_all(STDOUT_FILENO, b"\n");

@@ -83,23 +83,23 @@ same-length-3 c = search needs
 returns-5 : tie.Need-returns-5
 returns-5 c = search needs
 
-slice-aggregate-byte-at : tie.Need-slice-aggregate-byte-at
-slice-aggregate-byte-at c = search needs
+slice-aggregate-size-at : tie.Need-slice-aggregate-size-at
+slice-aggregate-size-at c = search needs
 
-byte-at-requires : tie.Need-byte-at-requires
-byte-at-requires c κs = search needs
+size-at-requires : tie.Need-size-at-requires
+size-at-requires c κs = search needs
 
-slice-aggregate-byte-at-2 : tie.Need-slice-aggregate-byte-at-2
-slice-aggregate-byte-at-2 c = search needs
+slice-aggregate-size-at-2 : tie.Need-slice-aggregate-size-at-2
+slice-aggregate-size-at-2 c = search needs
 
-byte-at-requires-2 : tie.Need-byte-at-requires-2
-byte-at-requires-2 c κs = search needs
+size-at-requires-2 : tie.Need-size-at-requires-2
+size-at-requires-2 c κs = search needs
 
-slice-aggregate-byte-at-3 : tie.Need-slice-aggregate-byte-at-3
-slice-aggregate-byte-at-3 c = search needs
+slice-aggregate-size-at-3 : tie.Need-slice-aggregate-size-at-3
+slice-aggregate-size-at-3 c = search needs
 
-byte-at-requires-3 : tie.Need-byte-at-requires-3
-byte-at-requires-3 c κs = search needs
+size-at-requires-3 : tie.Need-size-at-requires-3
+size-at-requires-3 c κs = search needs
 
 array-read-answer : tie.Need-array-read-answer
 array-read-answer c = search needs
@@ -167,12 +167,12 @@ answer-next-spec =
     same-length-2
     same-length-3
     returns-5
-    slice-aggregate-byte-at
-    byte-at-requires
-    slice-aggregate-byte-at-2
-    byte-at-requires-2
-    slice-aggregate-byte-at-3
-    byte-at-requires-3
+    slice-aggregate-size-at
+    size-at-requires
+    slice-aggregate-size-at-2
+    size-at-requires-2
+    slice-aggregate-size-at-3
+    size-at-requires-3
     array-read-answer
     slice-aggregate-answer
     sub-answer

@@ -6,10 +6,10 @@ use Rattle.vectors.proofs.end_line.Statement.{statement}
 use Rattle.vectors.proofs.end_line.Tie as tie
 
 abbrev Inv-loop : tie.InvT-loop
-Inv-loop room i₀ t3 i = i ≤ length room
+Inv-loop bytes i₀ t3 i = i ≤ length bytes
 
 abbrev μ-loop : tie.MeasureT-loop
-μ-loop room i₀ t3 i = length room - i
+μ-loop bytes i₀ t3 i = length bytes - i
 
 loop-holds : tie.Need-loop-holds Inv-loop μ-loop
 loop-holds c = search needs

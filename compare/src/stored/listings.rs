@@ -1,0 +1,186 @@
+//! Files for the listing program.
+
+use super::{example_file, largest_ladder, network, planned, LARGEST, TABLE_ONE};
+use crate::inputs::{file_of, setting_of, Input};
+use crate::pairs::{filled, input_with, Asked, Fault};
+use crate::{Network, CALL_BYTES, KIND_CALLS, KIND_PLANNED, LONGEST_FILE, LONGEST_NOTE};
+
+/// Files of both kinds that are listed, small and large; each refusal, by the reader and by the
+/// planner; and files around the greatest length.
+pub fn listings() -> Vec<Vec<u8>> {
+    [
+        small_files(),
+        counts_of_more_digits(),
+        large_files(),
+        refused_files(),
+    ]
+    .concat()
+}
+
+fn calls_file(net: Network, calls: &[u8]) -> Vec<u8> {
+    file_of(KIND_CALLS, net, &[], calls, &[])
+}
+
+fn small_files() -> Vec<Vec<u8>> {
+    let table_one = network(4, 4, 3);
+    vec![
+        example_file(),
+        // Nothing at all, and one byte.
+        Vec::new(),
+        vec![0x57],
+        // Planned, with a note of one byte.
+        file_of(
+            KIND_PLANNED,
+            network(2, 2, 2),
+            &[7],
+            &[0, 0, 1, 0],
+            &[1, 1, 0],
+        ),
+        // Refused by the planner: an overfull table.
+        calls_file(network(2, 1, 1), &[0, 0, 0, 0, 0, 1, 0, 1]),
+        // The largest sizes, without calls, of both kinds.
+        calls_file(network(16, 32, 64), &[]),
+        file_of(KIND_PLANNED, network(16, 32, 64), &[], &[], &[]),
+        // Document 004, Table I, with its settings.
+        file_of(
+            KIND_PLANNED,
+            table_one,
+            b"Table I",
+            &TABLE_ONE,
+            &planned(table_one, &TABLE_ONE),
+        ),
+    ]
+}
+
+/// The first rows of a full table, where K, or the last row, is the first number of its digits.
+fn counts_of_more_digits() -> Vec<Vec<u8>> {
+    let calls = largest_ladder();
+    [9, 10, 11, 99, 100, 101, 999, 1000, 1001]
+        .iter()
+        .map(|count| calls_file(LARGEST, &calls[..CALL_BYTES * count]))
+        .collect()
+}
+
+/// The largest network, every channel in use, each row on a central of two digits: with the longest
+/// note the longest file, and nearly the longest text.
+fn longest_file() -> Vec<u8> {
+    let net = network(16, 32, 64);
+    let mut calls = Vec::new();
+    let mut settings = Vec::new();
+    for module in 0..64 {
+        for channel in 0..16 {
+            let call = [module, channel, (module + channel) % 64, channel];
+            calls.extend(call);
+            settings.extend(setting_of(net, &call, 16 + usize::from(channel)));
+        }
+    }
+    file_of(KIND_PLANNED, net, &filled(LONGEST_NOTE), &calls, &settings)
+}
+
+/// Full tables, calls only and planned, and files that are too long: by one byte in front of the
+/// longest, by many, and with nothing in them that could be a trailer.
+fn large_files() -> Vec<Vec<u8>> {
+    let longest = longest_file();
+    let beyond = 8000 - longest.len();
+    vec![
+        calls_file(LARGEST, &largest_ladder()),
+        longest.clone(),
+        [filled(1), longest.clone()].concat(),
+        [filled(beyond), longest].concat(),
+        vec![0; LONGEST_FILE],
+        vec![0; LONGEST_FILE + 1],
+    ]
+}
+
+/// Each refusal of the reader, for both kinds, in each way that it is made.
+fn refused_files() -> Vec<Vec<u8>> {
+    let mut list = Vec::new();
+    for asked in [Asked::ReadCalls, Asked::ReadPlanned] {
+        for &number in asked.order() {
+            for way in 0..asked.ways(number) {
+                if let Input::Read { file } = input_with(asked, &[Fault { number, way }]) {
+                    list.push(file);
+                }
+            }
+        }
+    }
+    list
+}
+
+#[cfg(test)]
+mod tests {
+    use super::*;
+    use crate::plain::listing;
+
+    fn text_of(file: &[u8]) -> String {
+        String::from_utf8(listing(file)).expect("a listing is plain text")
+    }
+
+    /// The first line and the last, and how many there are.
+    fn outline(file: &[u8]) -> (String, String, usize) {
+        let text = text_of(file);
+        let lines: Vec<&str> = text.lines().collect();
+        (
+            lines[0].to_string(),
+            lines[lines.len() - 1].to_string(),
+            lines.len(),
+        )
+    }
+
+    #[test]
+    fn small_files_are_listed() {
+        let texts: Vec<String> = small_files().iter().map(|file| text_of(file)).collect();
+        let owed = [
+            "2 2 3 4 2\n0 0 0 1 1 1 0 0\n1 0 1 0 0 1 1 0\n2 1 0 1 0 2 2 0\n3 1 1 2 1 2 1 1\n",
+            "refused 14 row 0\n",
+            "refused 14 row 0\n",
+            "2 2 2 1 -\n0 0 0 1 1 0 1 0\n",
+            "refused 8 row 1\n",
+            "16 32 64 0 0\n",
+            "16 32 64 0 -\n",
+        ];
+        assert_eq!(texts[..7], owed);
+        assert!(texts[7].starts_with("4 4 3 12 -\n0 0 0 0 0 0 0 0\n1 0 1 1 1 2 1 0\n"));
+        assert!(texts[7].ends_with("10 2 2 0 2 3 1 2\n11 2 3 1 3 0 1 3\n"));
+    }
+
+    #[test]
+    fn counts_and_rows_have_as_many_digits_as_they_need() {
+        for (file, count) in counts_of_more_digits()
+            .iter()
+            .zip([9, 10, 11, 99, 100, 101, 999, 1000, 1001])
+        {
+            let (first, last, lines) = outline(file);
+            assert!(first.starts_with(&format!("16 16 64 {} ", count)));
+            assert!(last.starts_with(&format!("{} ", count - 1)));
+            assert_eq!(lines, count + 1);
+        }
+    }
+
+    #[test]
+    fn large_files_are_listed_unless_they_are_too_long() {
+        let files = large_files();
+        let lengths: Vec<usize> = files.iter().map(Vec::len).collect();
+        assert_eq!(lengths, [4108, 7435, 7436, 8000, 7435, 7436]);
+        let (first, last, lines) = outline(&files[0]);
+        assert_eq!((&first[..], lines), ("16 16 64 1024 2646", 1025));
+        assert!(last.starts_with("1023 0 "));
+        let (first, last, lines) = outline(&files[1]);
+        assert_eq!((&first[..], lines), ("16 32 64 1024 -", 1025));
+        assert_eq!(last, "1023 63 15 30 31 45 14 15");
+        assert_eq!(text_of(&files[2]), "too long\n");
+        assert_eq!(text_of(&files[3]), "too long\n");
+        assert_eq!(text_of(&files[4]), "refused 14 row 0\n");
+        assert_eq!(text_of(&files[5]), "too long\n");
+    }
+
+    #[test]
+    fn every_refusal_of_the_reader_is_told() {
+        let texts: Vec<String> = refused_files().iter().map(|file| text_of(file)).collect();
+        for number in [14, 1, 3, 15, 5, 6, 7, 9, 10, 11, 12, 13] {
+            let refused = format!("refused {} row ", number);
+            assert!(texts.iter().any(|text| text.starts_with(&refused)));
+        }
+        assert!(texts.iter().all(|text| text.starts_with("refused ")));
+    }
+}

@@ -1,0 +1,61 @@
+-- `vectors::show_listing` is safe: the text stands in the buffer, which keeps its length.
+use mathlib.Core.Path.{sym}
+use native.Mathlib.Omega.{arith}
+use lib.Seq.{length-take-le}
+use borrow.Author.Needs.{needs}
+use Rattle.lines.specs.Listing.{listed-length}
+use Rattle.vectors.proofs.show_listing.Statement.{statement}
+use Rattle.vectors.proofs.show_listing.Tie as tie
+
+list-requires : tie.Need-list-requires
+list-requires c κs = search needs
+
+show-requires : tie.Need-show-requires
+show-requires c κs = search needs
+
+sub-changed : tie.Need-sub-changed
+sub-changed c = search needs
+
+part-changed-start : tie.Need-part-changed-start
+part-changed-start c = search needs
+
+part-changed-end : tie.Need-part-changed-end
+part-changed-end c = omega (arith, listed-length (c .before .before .list .ensures))
+
+changed-requires : tie.Need-changed-requires
+changed-requires c κs = search needs
+
+show-requires-2 : tie.Need-show-requires-2
+show-requires-2 c κs = search needs
+
+array-share-prefix-text : tie.Need-array-share-prefix-text
+array-share-prefix-text c =
+    let listed = c .before .before .before .before .before .list .ensures in
+    omega (arith, listed-length listed, listed .inside)
+
+slice-aggregate-end-line : tie.Need-slice-aggregate-end-line
+slice-aggregate-end-line c =
+    let listed = c .before .before .before .before .before .before .list .ensures in
+    sym (length-take-le _ _ (omega (arith, listed-length listed, listed .inside)))
+
+end-line-requires : tie.Need-end-line-requires
+end-line-requires c κs = search needs
+
+returns : tie.Need-returns
+returns c = search needs
+
+pub show-listing-spec : {M : Type 1} → statement M
+show-listing-spec =
+    tie.close
+    (tie.spec
+    list-requires
+    show-requires
+    sub-changed
+    part-changed-start
+    part-changed-end
+    changed-requires
+    show-requires-2
+    array-share-prefix-text
+    slice-aggregate-end-line
+    end-line-requires
+    returns)
