@@ -3,7 +3,8 @@
 //! nothing else happens. The numbers are those of the table in `README.md`; 0 is success, and any
 //! other number is a refusal, which changes no byte of any buffer.
 //!
-//! The library is for x86-64 Linux. It allocates nothing and keeps nothing between calls.
+//! The library is for x86-64 Linux. It allocates nothing and keeps nothing between calls. A call
+//! takes stack, at most 13,320 bytes where it was measured (`docs/BENCHMARKS.md`).
 
 /// The three sizes of a network: n channels of each module, m central modules, r input modules and
 /// as many output modules. Sizes of any value may be given: those outside the limits are refused.
