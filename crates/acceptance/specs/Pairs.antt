@@ -1,47 +1,48 @@
--- Records of the pairs in use, for the code that goes from row to row: what marking the pair of a row tells.
---   pairs                == the places of such a record: a module of the largest network with a central
+-- Records of the pairs in use, for the code that goes from row to row: what marking the pair of a row tells. What is said of
+-- input modules is said of output modules too, by `output`.
+--   moduleIn call output == the module of the code's own record of a call, on that side
+--   pairMarks calls settings output i == the record of the pairs, a module with a central, after the rows below i
 --   Judged ..            == row i as it was read, when no row before it is refused, and what 9 to 11 say of it
---   pairSlots f settings == the place of row i's pair, its module f i with its central
+--   light-refuses        == a refusal by 9 to 11 is that of the row
+--   pair-room, pair-tells == the place of the row's pair in the record, and what marking it tells and leaves
+--   twelve, thirteen, next-passes == what the pairs tell of the row
 use mathlib.Core.Path.{_≡_, sym, ap, _∙_}
 use mathlib.Core.Bool.{Bool, true, false}
 use mathlib.Core.List.{List}
-use mathlib.Core.Logic.{⊎-elim}
 use Prim.Native.Nat.{ℕ, suc, _+_, _*_, _<_}
 use native.Mathlib.Omega.{arith}
 use lib.Dec.{T}
+use Rattle.ground.specs.Numbers.{up-to}
+use Rattle.ground.specs.Below.{usedEarlier}
+use Rattle.ground.specs.Marks.{slot, marks, Marked}
+use Rattle.ground.specs.MarksLaws.{slot-room, mark-tells}
 use Rattle.shelf.specs.declared.Network.{Network}
 use Rattle.shelf.specs.declared.CallRow.{CallRow}
 use Rattle.shelf.specs.declared.SettingsRow.{SettingsRow}
 use Rattle.shelf.specs.Network.{withinLimits, mostModules, mostCentrals}
 use Rattle.shelf.specs.NetworkLaws.{limits-are, own-central-below}
-use Rattle.shelf.specs.Rows.{rowCount, α, β, γ, CallRead, SettingsRead}
-use Rattle.shelf.specs.Every.{below-suc}
+use Rattle.shelf.specs.Rows.{rowCount, α, β, γ, moduleOf, CallRead, SettingsRead}
 use Rattle.shelf.specs.Light.{rowOf, rowAt}
+use Rattle.shelf.specs.Arrival.{Ports}
 use Rattle.shelf.specs.LawfulLaws.{row-read}
 use Rattle.calls.specs.declared.Verdict.{Verdict}
 use Rattle.calls.specs.Verdict.{passed, seekRows}
-use Rattle.calls.specs.VerdictLaws.{answer-stops, answer-goes-on, refused, not-refused, passed-zero, then-passes, seek-passes, seek-here, seek-next}
-use Rattle.calls.specs.Table.{usedEarlier, Inside}
-use Rattle.calls.specs.Use.{slot, marks, Marked, mark-tells, mark-next}
+use Rattle.calls.specs.VerdictLaws.{turn-stops, turn-goes-on, turn-last, refused, not-refused, passed-zero, seek-passes, seek-here, seek-next}
+use Rattle.calls.specs.Table.{Inside}
 use Rattle.acceptance.specs.Acceptance.{lightVerdict, rowVerdict, unlawfulRow}
-use Rattle.acceptance.specs.Exactly.{light-passes}
+use Rattle.acceptance.specs.Exactly.{light-passes, row-passes}
 
-unfoldable pub pairs : ℕ
-pairs = mostModules * mostCentrals
+abbrev pub moduleIn : CallRow → Bool → ℕ
+moduleIn call true = call .«output_module»
+moduleIn call false = call .«input_module»
 
-abbrev pub pairSlots : (ℕ → ℕ) → List ℕ → ℕ → ℕ
-pairSlots f settings = slot mostCentrals f (γ settings)
-
--- a pair of the largest network has a place
-pub pair-below : (v c : ℕ) → v < mostModules → c < mostCentrals → v * mostCentrals + c < pairs
-unfolding pairs mostModules mostCentrals
-pair-below v c m k = omega arith
+abbrev pub pairMarks : List ℕ → List ℕ → Bool → ℕ → List ℕ
+pairMarks calls settings output = marks mostModules mostCentrals (moduleOf calls output) (γ settings)
 
 -- the centrals of rows whose light arrives are small
-small-central : (net : Network) (calls settings : List ℕ) (i : ℕ) → T (withinLimits net) → lightVerdict net i (rowAt calls settings i) .number ≡ 0 → γ settings i < mostCentrals
+small-central : (net : Network) (calls settings : List ℕ) (i : ℕ) → T (withinLimits net) → Ports net (rowAt calls settings i) → γ settings i < mostCentrals
 unfolding rowAt
-small-central net calls settings i h z =
-    let p = light-passes net i (rowAt calls settings i) .0 z in
+small-central net calls settings i h p =
     let l = limits-are net .0 h in
     omega (arith, own-central-below net (γ settings i) (p .own-γ))
 
@@ -65,72 +66,49 @@ module _ {net : Network} {calls settings : List ℕ} {i : ℕ} {call : CallRow} 
 
   pub light-refuses : (light .number ≡ 0 → ⊥) → light ≡ unlawfulRow net calls settings
   unfolding rowVerdict
-  light-refuses n = refused-here light (answer-stops _ light-here n) n
+  light-refuses n = refused-here light (turn-stops _ light-here n) n
 
   module _ (z : light .number ≡ 0) where
     small-here : γ settings i < mostCentrals
-    small-here = small-central net calls settings i (j .limits) (ap (λ (v : Verdict). v .number) (sym light-here) ∙ z)
+    small-here = small-central net calls settings i (j .limits) (light-passes net i (rowAt calls settings i) .0 (rw light-here at z))
 
     small-so-far : (q : ℕ) → q < suc i → γ settings q < mostCentrals
-    unfolding rowVerdict passed
-    small-so-far q k = ⊎-elim (λ e. rw e small-here) earlier (below-suc k)
+    unfolding passed
+    small-so-far = up-to (λ q. γ settings q < mostCentrals) (λ q l. small-central net calls settings q (j .limits) (row-passes net calls settings q .0 (so-far q l) .0)) small-here
       where
-        earlier : q < i → γ settings q < mostCentrals
-        earlier l =
-            let p = seek-passes (rowVerdict net calls settings) i .0 (ap (λ (v : Verdict). v .number) (j .so-far)) q l in
-            small-central net calls settings q (j .limits) (then-passes (lightVerdict net q (rowAt calls settings q)) _ .0 p .0)
+        so-far : (q : ℕ) → q < i → rowVerdict net calls settings q .number ≡ 0
+        so-far = seek-passes (rowVerdict net calls settings) i .0 (ap (λ (v : Verdict). v .number) (j .so-far))
 
-    -- the row's pair with its module v of the side f
-    module _ (f : ℕ → ℕ) (v : ℕ) (at-v : v ≡ f i) (small : f i < mostModules) where
-      pair-slot : v * mostCentrals + set .central ≡ slot mostCentrals f (γ settings) i
-      unfolding slot
-      pair-slot = rw (at-v, j .settings-read .central)
+    small-module : (output : Bool) → moduleOf calls output i < mostModules
+    small-module true = let l = limits-are net .0 (j .limits) in omega (arith, j .inside .own-β)
+    small-module false = let l = limits-are net .0 (j .limits) in omega (arith, j .inside .own-α)
 
-      pair-room : v * mostCentrals + set .central < pairs
-      pair-room = pair-below v (set .central) (rw at-v small) (rw (j .settings-read .central) small-here)
+    pair-slot : (output : Bool) → moduleIn call output * mostCentrals + set .central ≡ slot mostCentrals (moduleOf calls output) (γ settings) i
+    unfolding slot
+    pair-slot true = rw (j .call-read .output-module, j .settings-read .central)
+    pair-slot false = rw (j .call-read .input-module, j .settings-read .central)
 
-      pair-told : (used used′ : List ℕ) (before : Bool) → used ≡ marks pairs (pairSlots f settings) i → Marked used used′ (v * mostCentrals + set .central) before
-          → (before ≡ usedEarlier f (γ settings) i) × (used′ ≡ marks pairs (pairSlots f settings) (i + 1))
-      pair-told used used′ before u m = (
-        mark-tells pairs mostCentrals f (γ settings) i _ used used′ before u pair-slot m small-so-far pair-room,
-        mark-next pairs mostCentrals f (γ settings) i _ used used′ before u pair-slot m,
-      )
+    pub pair-room : (output : Bool) → moduleIn call output * mostCentrals + set .central < mostModules * mostCentrals
+    pair-room output = slot-room _ _ _ _ _ (pair-slot output) (small-module output) small-here
 
-    small-input : α calls i < mostModules
-    small-input = let l = limits-are net .0 (j .limits) in omega (arith, j .inside .own-α)
-
-    small-output : β calls i < mostModules
-    small-output = let l = limits-are net .0 (j .limits) in omega (arith, j .inside .own-β)
-
-    -- the pair of the input module, and of the output module: its place in the record, and what marking it tells and leaves
-    pub input-room : call .«input_module» * mostCentrals + set .central < pairs
-    input-room = pair-room (α calls) _ (j .call-read .input-module) small-input
-
-    pub output-room : call .«output_module» * mostCentrals + set .central < pairs
-    output-room = pair-room (β calls) _ (j .call-read .output-module) small-output
-
-    pub input-told : {used used′ : List ℕ} {before : Bool} → used ≡ marks pairs (pairSlots (α calls) settings) i → Marked used used′ (call .«input_module» * mostCentrals + set .central) before
-        → (before ≡ usedEarlier (α calls) (γ settings) i) × (used′ ≡ marks pairs (pairSlots (α calls) settings) (i + 1))
-    input-told {used} {used′} {before} = pair-told (α calls) _ (j .call-read .input-module) small-input used used′ before
-
-    pub output-told : {used used′ : List ℕ} {before : Bool} → used ≡ marks pairs (pairSlots (β calls) settings) i → Marked used used′ (call .«output_module» * mostCentrals + set .central) before
-        → (before ≡ usedEarlier (β calls) (γ settings) i) × (used′ ≡ marks pairs (pairSlots (β calls) settings) (i + 1))
-    output-told {used} {used′} {before} = pair-told (β calls) _ (j .call-read .output-module) small-output used used′ before
+    pub pair-tells : (output : Bool) {used used′ : List ℕ} {before : Bool} → used ≡ pairMarks calls settings output i → Marked used used′ (moduleIn call output * mostCentrals + set .central) before
+        → (before ≡ usedEarlier (moduleOf calls output) (γ settings) i) × (used′ ≡ pairMarks calls settings output (i + 1))
+    pair-tells output u m = mark-tells mostModules mostCentrals (moduleOf calls output) (γ settings) i u (pair-slot output) m (small-module output) small-so-far
 
     -- what the pairs tell
     module _ {input : Bool} (a : input ≡ usedEarlier (α calls) (γ settings) i) where
       pub twelve : input ≡ true → record { number = 12; row = i } ≡ unlawfulRow net calls settings
       unfolding rowVerdict
-      twelve t = refused-here _ (answer-goes-on light-here z (answer-stops _ (sym (refused 12 i _ (sym a ∙ t))) (λ q. omega arith))) (λ q. omega arith)
+      twelve t = refused-here _ (turn-goes-on _ _ light-here z (turn-stops _ (sym (refused 12 i _ (sym a ∙ t))) (λ q. omega arith))) (λ q. omega arith)
 
       module _ {output : Bool} (b : output ≡ usedEarlier (β calls) (γ settings) i) (t : input ≡ false) where
         pub thirteen : output ≡ true → record { number = 13; row = i } ≡ unlawfulRow net calls settings
         unfolding rowVerdict
         thirteen r =
-            refused-here _ (answer-goes-on light-here z (answer-goes-on (sym (not-refused 12 i _ (sym a ∙ t))) passed-zero (sym (refused 13 i _ (sym b ∙ r))))) (λ q. omega arith)
+            refused-here _ (turn-goes-on _ _ light-here z (turn-goes-on _ _ (sym (not-refused 12 i _ (sym a ∙ t))) passed-zero (turn-last (sym (refused 13 i _ (sym b ∙ r)))))) (λ q. omega arith)
 
-        pub row-passes : output ≡ false → seekRows (i + 1) (rowVerdict net calls settings) ≡ passed
+        pub next-passes : output ≡ false → seekRows (i + 1) (rowVerdict net calls settings) ≡ passed
         unfolding rowVerdict
-        row-passes r =
+        next-passes r =
             seek-next (rowVerdict net calls settings) i (j .so-far)
-            (sym (answer-goes-on light-here z (answer-goes-on (sym (not-refused 12 i _ (sym a ∙ t))) passed-zero (sym (not-refused 13 i _ (sym b ∙ r))))))
+            (sym (turn-goes-on _ _ light-here z (turn-goes-on _ _ (sym (not-refused 12 i _ (sym a ∙ t))) passed-zero (turn-last (sym (not-refused 13 i _ (sym b ∙ r)))))))

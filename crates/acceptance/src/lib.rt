@@ -7,9 +7,8 @@ ghost use lib.ListN.{length};
 ghost use Rattle.shelf.specs.Network.{withinLimits};
 ghost use Rattle.shelf.specs.Rows.{rowCount};
 ghost use Rattle.shelf.specs.Light.{rowOf};
-ghost use Rattle.calls.specs.Verdict.{_⨾_};
-ghost use Rattle.calls.specs.Table.{callChecks, Inside};
-ghost use Rattle.acceptance.specs.Acceptance.{ownedSettings, lightVerdict, unlawfulRow, Accepts};
+ghost use Rattle.calls.specs.Table.{Inside};
+ghost use Rattle.acceptance.specs.Acceptance.{hasNumbers, lightVerdict, unlawfulRow, rowChecks, Accepts};
 use calls::Verdict;
 use shelf::CallRow;
 use shelf::Network;
@@ -40,7 +39,7 @@ pub fn accept(net: Network, calls: &[u8], settings: &[u8]) -> Verdict
 // Acceptance from refusal 5 on, for sizes and lengths that were tested.
 pub fn check_rows(net: Network, calls: &[u8], settings: &[u8]) -> Verdict
     requires { ⌜ T (withinLimits net) × (length (now settings) ≡ 3 * rowCount (now calls)) ⌝ }
-    ensures { λ v. ⌜ v ≡ callChecks net (now (calls .entry)) ⨾ unlawfulRow net (now (calls .entry)) (now (settings .entry)) ⌝ }
+    ensures { λ v. ⌜ v ≡ rowChecks net (now (calls .entry)) (now (settings .entry)) ⌝ }
 {
     let table = calls::check_calls(net, calls);
     if table.number != 0 {
@@ -65,13 +64,13 @@ fn seek_unlawful(net: Network, calls: &[u8], settings: &[u8]) -> Verdict
         if light.number != 0 {
             return light;
         }
-        if calls::mark(
+        if ground::mark(
             &mut inputs,
             call.input_module * Network::MOST_CENTRALS + set.central,
         ) {
             return Verdict { number: 12, row };
         }
-        if calls::mark(
+        if ground::mark(
             &mut outputs,
             call.output_module * Network::MOST_CENTRALS + set.central,
         ) {
@@ -84,10 +83,10 @@ fn seek_unlawful(net: Network, calls: &[u8], settings: &[u8]) -> Verdict
 
 // Refusals 9, 10 and 11 of one row: its wavelengths and its central, and the ports at which its light leaves the gratings.
 fn judge_light(net: Network, row: usize, call: CallRow, set: SettingsRow) -> Verdict
-    requires { ⌜ call .«input_module» < net .r ⌝ }
+    requires { ⌜ T (withinLimits net) × (call .«input_module» < net .r) ⌝ }
     ensures { λ v. ⌜ v ≡ lightVerdict net row (rowOf call set) ⌝ }
 {
-    if !is_owned(net, set) {
+    if !has_numbers(net, set) {
         return Verdict { number: 9, row };
     }
     let cycle = net.cycle();
@@ -100,9 +99,9 @@ fn judge_light(net: Network, row: usize, call: CallRow, set: SettingsRow) -> Ver
     Verdict { number: 0, row: 0 }
 }
 
-// Whether a row's wavelengths and central are the shelf's own.
-fn is_owned(net: Network, set: SettingsRow) -> bool
-    ensures { λ b. ⌜ b ≡ ownedSettings net set ⌝ }
+// Whether the shelf has wavelengths and a central of a row's numbers.
+fn has_numbers(net: Network, set: SettingsRow) -> bool
+    ensures { λ b. ⌜ b ≡ hasNumbers net (set .«to_central») (set .central) (set .«from_central») ⌝ }
 {
     let cycle = net.cycle();
     if cycle <= set.to_central {

@@ -9,6 +9,8 @@
 --   plans, accepts       == a part as the scope writes it
 --   benchTable           == the twelve cases
 --   ruled part           == the outcome by the written rules
+--   callsOf3, settingsOf3   == the calls of case 3, which case 12 uses too, and their settings
+--   byPlanner, byAcceptance, ruledBy == an outcome from what each of the two answers, and of who is asked
 use mathlib.Core.List.{List, [], _∷_, _++_}
 use Prim.Native.Nat.{ℕ, _-_}
 use lib.ListN.{length, replicate}

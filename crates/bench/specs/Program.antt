@@ -1,7 +1,7 @@
 -- The program's own table, part by part.
 --   isPlan, countOf, roomOf, partOf part == what the bytes of a part of the program's table say: who answers, K, the room, and the whole part
 use mathlib.Core.Bool.{Bool, cond}
-use mathlib.Core.List.{List, []}
+use mathlib.Core.List.{[]}
 use Prim.Native.Nat.{ℕ, _*_}
 use lib.Dec.{eqb}
 use lib.ListN.{getD, take}

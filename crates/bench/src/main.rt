@@ -174,7 +174,7 @@ fn is_answered(part: Part) -> bool {
     let head = part.head;
     let calls = part.calls;
     let bytes = part.bytes;
-    let count = shelf::byte_at(&head, COUNT_AT);
+    let count = ground::byte_at(&head, COUNT_AT);
     if MOST_ROWS < count {
         return false;
     }
@@ -195,28 +195,28 @@ fn front<'a>(bytes: &'a [u8], end: usize) -> &'a [u8] {
 // The network of a part.
 fn network_of(head: &[u8; 10]) -> Network {
     Network {
-        n: shelf::byte_at(head, SIZES_AT),
-        m: shelf::byte_at(head, SIZES_AT + 1),
-        r: shelf::byte_at(head, SIZES_AT + 2),
+        n: ground::byte_at(head, SIZES_AT),
+        m: ground::byte_at(head, SIZES_AT + 1),
+        r: ground::byte_at(head, SIZES_AT + 2),
     }
 }
 
 // Whether the planner, given these calls and as much room as the part says, answers as it is written and leaves every byte of the buffer as it is
 // written: those of the room, of a refusal too, and those beyond what is lent.
 fn is_planned(head: &[u8; 10], calls: &[u8], after: &[u8; MOST_ROOM]) -> bool {
-    let room_end = shelf::byte_at(head, ROOM_AT);
+    let room_end = ground::byte_at(head, ROOM_AT);
     if MOST_ROOM < room_end {
         return false;
     }
     let mut buffer = [BLANK; MOST_ROOM];
     let answer = planner::plan(network_of(head), calls, &mut buffer[..room_end]);
-    if answer.number != shelf::byte_at(head, NUMBER_AT) {
+    if answer.number != ground::byte_at(head, NUMBER_AT) {
         return false;
     }
-    if answer.row != shelf::byte_at(head, ROW_AT) {
+    if answer.row != ground::byte_at(head, ROW_AT) {
         return false;
     }
-    if answer.moved != shelf::byte_at(head, MOVED_AT) {
+    if answer.moved != ground::byte_at(head, MOVED_AT) {
         return false;
     }
     is_same(&buffer, after)
@@ -230,8 +230,8 @@ fn is_same(a: &[u8; MOST_ROOM], b: &[u8; MOST_ROOM]) -> bool {
 // Whether acceptance, given these calls and settings, answers as it is written. It is lent nothing that it could write.
 fn is_accepted(head: &[u8; 10], calls: &[u8], settings: &[u8]) -> bool {
     let answer = acceptance::accept(network_of(head), calls, settings);
-    if answer.number != shelf::byte_at(head, NUMBER_AT) {
+    if answer.number != ground::byte_at(head, NUMBER_AT) {
         return false;
     }
-    answer.row == shelf::byte_at(head, ROW_AT)
+    answer.row == ground::byte_at(head, ROW_AT)
 }

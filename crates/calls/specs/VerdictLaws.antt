@@ -1,66 +1,147 @@
 -- Laws of answers in order.
---   stops, goes-on       == what ⨾ gives where the first refuses, and where it does not
---   answer-stops, answer-goes-on == the same, for the answers of checks that were tried
---   later-tells          == a number that the first of two checks never tells comes from the second
---   then-assoc           == checks may be grouped
---   seek-here, seek-next == a search row by row: the first refused row is what is told
+--   turn-passes, answer-passes == verdicts in turn pass exactly where each does
+--   turn-stops, turn-goes-on, turn-last == for code that tries one after the other: the first that refuses is the answer, one that
+--                           passes leaves it to the rest, and the last tells it
+--   test-stops, test-goes-on, test-passes == the same where the check goes by one test
+--   answer-refused, answer-passed == for the entry: a refusal of its checks is the answer, and else success
+--   answer-success       == an answer that passes is success with k
+--   turn-number, answer-number, test-number, seek-number == what holds of 0 and of the number of each holds of the number that is told
+--   answer-tells-last    == a number that only the last of the checks can tell
+--   refused, not-refused, passed-zero, refused-zero == a check by one test
+--   seek-next, seek-here, seek-passes == a search row by row: the first refused row is what is told
+--   seek-bad, seek-good, seek-end == the same where each row is judged by one test
 use mathlib.Core.Path.{_≡_, refl, sym, ap, _∙_}
-use mathlib.Core.Logic.{_⊎_, inl, inr, _↔_, ⊎-elim}
+use mathlib.Core.Logic.{_↔_, Iff·trans, Iff·rfl, Iff·and}
 use mathlib.Core.Bool.{Bool, true, false, not}
+use mathlib.Core.List.{List, [], _∷_, _++_}
 use Prim.Native.Nat.{ℕ, zero, suc, _+_, _≤_, _<_}
 use native.Mathlib.Numerals.{add-one}
-use native.Mathlib.Decide.{le-ind}
+use native.Mathlib.Decide.{ℕ-discrete, le-ind}
 use native.Mathlib.Omega.{arith}
-use lib.Dec.{T, eqb}
-use borrow.Author.Tests.{eq-eqb, ne-eqb, eqb-true, eqb-false}
-use Rattle.shelf.specs.Every.{below-suc}
+use lib.Dec.{T}
+use borrow.Author.Tests.{eq-eqb, ne-eqb}
+use Rattle.ground.specs.Numbers.{up-to}
 use Rattle.calls.specs.declared.Verdict.{Verdict}
-use Rattle.calls.specs.Verdict.{passed, refusedIf, _⨾_, seekRows}
+use Rattle.calls.specs.Verdict.{success, passed, refusedIf, _⨾_, inTurn, answer, Each, AllPass, seekRows}
 
-pub stops : (v w : Verdict) → (v .number ≡ 0 → ⊥) → v ⨾ w ≡ v
+stops : (v w : Verdict) → (v .number ≡ 0 → ⊥) → v ⨾ w ≡ v
 unfolding _⨾_
 stops v w h = rw (ne-eqb (v .number) 0 h)
 
-pub goes-on : (v w : Verdict) → v .number ≡ 0 → v ⨾ w ≡ w
+goes-on : (v w : Verdict) → v .number ≡ 0 → v ⨾ w ≡ w
 unfolding _⨾_
 goes-on v w h = rw (eq-eqb (v .number) 0 h)
 
--- the same for an answer that is known to be a check's: a refusal is the answer of all that follow, and a check that passes
--- leaves the answer to them
-pub answer-stops : {v a : Verdict} (w : Verdict) → v ≡ a → (v .number ≡ 0 → ⊥) → v ≡ a ⨾ w
-answer-stops {v} {a} w e n = e ∙ sym (stops a w (λ z. n (ap (λ (u : Verdict). u .number) e ∙ z)))
+-- where v passes, and where it refuses
+then-cases : (P : Verdict → Type 0) (v w : Verdict) → (v .number ≡ 0 → P w) → ((v .number ≡ 0 → ⊥) → P v) → P (v ⨾ w)
+then-cases P v w p q = elim (ℕ-discrete (v .number) 0) [ yes e ↦ rw (goes-on v w e) (p e) | no n ↦ rw (stops v w n) (q n) ]
 
-pub answer-goes-on : {u v a w : Verdict} → u ≡ a → u .number ≡ 0 → v ≡ w → v ≡ a ⨾ w
-answer-goes-on {u} {v} {a} {w} e z f = f ∙ sym (goes-on a w (sym (ap (λ (t : Verdict). t .number) e) ∙ z))
+then-passes : (v w : Verdict) → ((v ⨾ w) .number ≡ 0) ↔ ((v .number ≡ 0) × (w .number ≡ 0))
+then-passes v w = (
+  then-cases (λ u. u .number ≡ 0 → (v .number ≡ 0) × (w .number ≡ 0)) v w (λ e h. (e, h)) (λ n h. absurd (n h)),
+  λ h. ap (λ (u : Verdict). u .number) (goes-on v w (h .0)) ∙ h .1,
+)
 
--- passing or not, as a choice
-pub passes-or : (v : Verdict) → (v .number ≡ 0) ⊎ (v .number ≡ 0 → ⊥)
-passes-or v = go (eqb (v .number) 0) refl
-  where
-    go : (b : Bool) → eqb (v .number) 0 ≡ b → (v .number ≡ 0) ⊎ (v .number ≡ 0 → ⊥)
-    go true e = inl (eqb-true (v .number) 0 e)
-    go false e = inr (eqb-false (v .number) 0 e)
+-- ---- verdicts in turn
 
-pub later-tells : (number : ℕ) (v w : Verdict) → (v .number ≡ number → ⊥) → (v ⨾ w) .number ≡ number → (v .number ≡ 0) × (w .number ≡ number)
-later-tells number v w other h =
-    ⊎-elim (λ e. (e, sym (ap (λ (u : Verdict). u .number) (goes-on v w e)) ∙ h)) (λ n. absurd (other (sym (ap (λ (u : Verdict). u .number) (stops v w n)) ∙ h))) (passes-or v)
+pub turn-passes : (vs : List Verdict) → (inTurn vs .number ≡ 0) ↔ AllPass vs
+unfolding inTurn passed
+turn-passes [] = (λ h. tt, λ h. refl)
+turn-passes (v ∷ []) = (λ h. (h, tt), λ h. h .0)
+turn-passes (v ∷ w ∷ vs) = Iff·trans (then-passes v (inTurn (w ∷ vs))) (Iff·and Iff·rfl (turn-passes (w ∷ vs)))
 
-pub then-assoc : (u v w : Verdict) → (u ⨾ v) ⨾ w ≡ u ⨾ (v ⨾ w)
-then-assoc u v w = go (passes-or u)
-  where
-    go : (u .number ≡ 0) ⊎ (u .number ≡ 0 → ⊥) → (u ⨾ v) ⨾ w ≡ u ⨾ (v ⨾ w)
-    go (inl e) = rw (goes-on u v e, goes-on u (v ⨾ w) e)
-    go (inr n) = rw (stops u v n, stops u w n, stops u (v ⨾ w) n)
+pub answer-passes : (vs : List Verdict) (k : ℕ) → (answer vs k .number ≡ 0) ↔ AllPass vs
+unfolding answer success
+answer-passes vs k = Iff·trans (then-passes (inTurn vs) (success k)) (λ h. turn-passes vs .0 (h .0), λ h. (turn-passes vs .1 h, refl))
 
--- all checks pass where each does
-pub then-passes : (v w : Verdict) → ((v ⨾ w) .number ≡ 0) ↔ ((v .number ≡ 0) × (w .number ≡ 0))
-then-passes v w = (λ h. go h (passes-or v), λ h. ap (λ (u : Verdict). u .number) (goes-on v w (h .0)) ∙ h .1)
-  where
-    go : (v ⨾ w) .number ≡ 0 → (v .number ≡ 0) ⊎ (v .number ≡ 0 → ⊥) → (v .number ≡ 0) × (w .number ≡ 0)
-    go h (inl e) = (e, sym (ap (λ (u : Verdict). u .number) (goes-on v w e)) ∙ h)
-    go h (inr n) = absurd (n (sym (ap (λ (u : Verdict). u .number) (stops v w n)) ∙ h))
+-- v is what the first of the verdicts was found to be, where it refuses
+pub turn-stops : {v a : Verdict} (vs : List Verdict) → v ≡ a → (v .number ≡ 0 → ⊥) → v ≡ inTurn (a ∷ vs)
+unfolding inTurn
+turn-stops [] e n = e
+turn-stops {v} {a} (w ∷ vs) e n = e ∙ sym (stops a (inTurn (w ∷ vs)) (λ z. n (rw (← e) at z)))
 
--- a check by one test
+-- u is what the first was found to be, where it passes, and v what the rest tell
+pub turn-goes-on : {u v a : Verdict} (w : Verdict) (vs : List Verdict) → u ≡ a → u .number ≡ 0 → v ≡ inTurn (w ∷ vs) → v ≡ inTurn (a ∷ w ∷ vs)
+unfolding inTurn
+turn-goes-on {a = a} w vs e z f = f ∙ sym (goes-on a (inTurn (w ∷ vs)) (rw e at z))
+
+pub turn-last : {v a : Verdict} → v ≡ a → v ≡ inTurn (a ∷ [])
+unfolding inTurn
+turn-last e = e
+
+-- a check by one test, which holds, and which fails
+pub test-stops : (number row : ℕ) {bad : Bool} (vs : List Verdict) → bad ≡ true → record { number = suc number; row = row } ≡ inTurn (refusedIf (suc number) row bad ∷ vs)
+unfolding refusedIf
+test-stops number row vs e = turn-stops vs (rw e) (λ z. omega arith)
+
+pub test-goes-on : (number row : ℕ) {bad : Bool} {v : Verdict} (w : Verdict) (vs : List Verdict) → bad ≡ false → v ≡ inTurn (w ∷ vs) → v ≡ inTurn (refusedIf number row bad ∷ w ∷ vs)
+unfolding refusedIf passed
+test-goes-on number row w vs e f = turn-goes-on {u = passed} w vs (rw e) refl f
+
+pub test-passes : (number row : ℕ) {bad : Bool} → bad ≡ false → passed ≡ inTurn (refusedIf number row bad ∷ [])
+unfolding refusedIf
+test-passes number row e = turn-last (rw e)
+
+pub answer-refused : {v : Verdict} (vs : List Verdict) (k : ℕ) → v ≡ inTurn vs → (v .number ≡ 0 → ⊥) → v ≡ answer vs k
+unfolding answer
+answer-refused vs k e n = e ∙ sym (stops (inTurn vs) (success k) (rw e at n))
+
+pub answer-passed : {u : Verdict} (vs : List Verdict) (k : ℕ) → u ≡ inTurn vs → u .number ≡ 0 → success k ≡ answer vs k
+unfolding answer
+answer-passed vs k e z = sym (goes-on (inTurn vs) (success k) (rw e at z))
+
+pub answer-success : (vs : List Verdict) (k : ℕ) → answer vs k .number ≡ 0 → answer vs k ≡ success k
+answer-success vs k h = sym (answer-passed vs k refl (turn-passes vs .1 (answer-passes vs k .0 h)))
+
+-- ---- the numbers that are told
+
+module _ (P : ℕ → Type 0) where
+  then-number : (v w : Verdict) → P (v .number) → P (w .number) → P ((v ⨾ w) .number)
+  then-number v w p q = then-cases (λ u. P (u .number)) v w (λ e. q) (λ n. p)
+
+  pub test-number : (number row : ℕ) (bad : Bool) → P number → P 0 → P (refusedIf number row bad .number)
+  unfolding refusedIf passed
+  test-number number row true p z = p
+  test-number number row false p z = z
+
+  pub seek-number : (k : ℕ) (judge : ℕ → Verdict) → ((i : ℕ) → P (judge i .number)) → P 0 → P (seekRows k judge .number)
+  unfolding seekRows passed
+  seek-number zero judge p z = z
+  seek-number (suc k) judge p z = then-number (seekRows k judge) (judge k) (seek-number k judge p z) (p k)
+
+  pub turn-number : (vs : List Verdict) → P 0 → Each P vs → P (inTurn vs .number)
+  unfolding inTurn passed
+  turn-number [] z h = z
+  turn-number (v ∷ []) z h = h .0
+  turn-number (v ∷ w ∷ vs) z h = then-number v (inTurn (w ∷ vs)) (h .0) (turn-number (w ∷ vs) z (h .1))
+
+  pub answer-number : (vs : List Verdict) (k : ℕ) → P 0 → Each P vs → P (answer vs k .number)
+  unfolding answer success
+  answer-number vs k z h = then-number (inTurn vs) (success k) (turn-number vs z h) z
+
+-- a number that no check but the last tells: all before it passed
+module _ (number k : ℕ) (last : Verdict) where
+  more : (v : Verdict) (vs : List Verdict) → inTurn (v ∷ vs ++ last ∷ []) ≡ v ⨾ inTurn (vs ++ last ∷ [])
+  unfolding inTurn
+  more v [] = refl
+  more v (w ∷ vs) = refl
+
+  turn-tells-last : (vs : List Verdict) → Each (λ n. n ≡ number → ⊥) vs → inTurn (vs ++ last ∷ []) .number ≡ number → AllPass vs × (last .number ≡ number)
+  unfolding inTurn
+  turn-tells-last [] others h = (tt, h)
+  turn-tells-last (v ∷ vs) others h =
+      then-cases (λ u. u .number ≡ number → AllPass (v ∷ vs) × (last .number ≡ number)) v (inTurn (vs ++ last ∷ []))
+      (λ z e. let r = turn-tells-last vs (others .1) e in ((z, r .0), r .1)) (λ n e. absurd (others .0 e)) (rw (more v vs) at h)
+
+  pub answer-tells-last : (vs : List Verdict) → (number ≡ 0 → ⊥) → Each (λ n. n ≡ number → ⊥) vs
+      → answer (vs ++ last ∷ []) k .number ≡ number → AllPass vs × (last .number ≡ number)
+  unfolding answer success
+  answer-tells-last vs refuses others =
+      then-cases (λ u. u .number ≡ number → AllPass vs × (last .number ≡ number)) (inTurn (vs ++ last ∷ [])) (success k)
+      (λ z e. absurd (refuses (sym e))) (λ n. turn-tells-last vs others)
+
+-- ---- a check by one test, and a search row by row
+
 pub refused : (number row : ℕ) (bad : Bool) → bad ≡ true → refusedIf number row bad ≡ record { number = number; row = row }
 unfolding refusedIf
 refused number row bad e = rw e
@@ -95,17 +176,10 @@ module _ (judge : ℕ → Verdict) where
   pub seek-passes : (k : ℕ) → (seekRows k judge .number ≡ 0) ↔ ((i : ℕ) → i < k → judge i .number ≡ 0)
   unfolding seekRows passed
   seek-passes zero = (λ h i l. absurd (omega arith), λ h. refl)
-  seek-passes (suc k) = (
-    λ h. let p = then-passes (seekRows k judge) (judge k) .0 h in all (seek-passes k .0 (p .0)) (p .1),
-    λ h. then-passes (seekRows k judge) (judge k) .1 (seek-passes k .1 (λ i l. h i (omega arith)), h k (omega arith)),
+  seek-passes (suc k) = Iff·trans (then-passes (seekRows k judge) (judge k)) (
+    λ h. up-to (λ i. judge i .number ≡ 0) (seek-passes k .0 (h .0)) (h .1),
+    λ h. (seek-passes k .1 (λ i l. h i (omega arith)), h k (omega arith)),
   )
-    where
-      all : ((i : ℕ) → i < k → judge i .number ≡ 0) → judge k .number ≡ 0 → (i : ℕ) → i < suc k → judge i .number ≡ 0
-      all f e i l = pick (below-suc l)
-        where
-          pick : (i ≡ k) ⊎ (i < k) → judge i .number ≡ 0
-          pick (inl q) = rw q e
-          pick (inr q) = f i q
 
 -- the same where each row is judged by one test
 module _ (number : ℕ) (bad : ℕ → Bool) where
@@ -118,18 +192,3 @@ module _ (number : ℕ) (bad : ℕ → Bool) where
 
   pub seek-end : (i k : ℕ) → i ≤ k → k ≤ i → seekRows i (λ j. refusedIf number j (bad j)) ≡ passed → passed ≡ seekRows k (λ j. refusedIf number j (bad j))
   seek-end i k l g e = let q : i ≡ k = omega arith in rw (← q) (sym e)
-
--- what holds of the number of each check, and of 0, holds of the number that is told
-module _ (P : ℕ → Type 0) where
-  pub then-number : (v w : Verdict) → P (v .number) → P (w .number) → P ((v ⨾ w) .number)
-  then-number v w p q = ⊎-elim (λ e. rw (goes-on v w e) q) (λ n. rw (stops v w n) p) (passes-or v)
-
-  pub test-number : (number row : ℕ) (bad : Bool) → P number → P 0 → P (refusedIf number row bad .number)
-  unfolding refusedIf passed
-  test-number number row true p z = p
-  test-number number row false p z = z
-
-  pub seek-number : (k : ℕ) (judge : ℕ → Verdict) → ((i : ℕ) → P (judge i .number)) → P 0 → P (seekRows k judge .number)
-  unfolding seekRows passed
-  seek-number zero judge p z = z
-  seek-number (suc k) judge p z = then-number (seekRows k judge) (judge k) (seek-number k judge p z) (p k)

@@ -6,9 +6,7 @@ ghost use lib.Dec.{T};
 ghost use lib.ListN.{length};
 ghost use Rattle.shelf.specs.Network.{withinLimits};
 ghost use Rattle.shelf.specs.Rows.{rowCount};
-ghost use Rattle.calls.specs.Table.{sizeChecks, callChecks, outsideRow};
-ghost use Rattle.calls.specs.Use.{Marked};
-ghost use Rattle.calls.specs.Point.{pointSlot, pointTwice, PointFits, outsideCall};
+ghost use Rattle.calls.specs.Table.{sizeChecks, callChecks, outsideCall, outsideRow, pointTwice, pointSlot, PointFits};
 use shelf::CallRow;
 use shelf::Network;
 
@@ -105,7 +103,7 @@ fn seek_repeat(calls: &[u8], outlets: bool, number: usize) -> Verdict
     let mut used = [0u8; POINTS];
     let mut row = 0;
     while row < count {
-        if mark(&mut used, point_at(calls, row, outlets)) {
+        if ground::mark(&mut used, point_at(calls, row, outlets)) {
             return Verdict { number, row };
         }
         row += 1;
@@ -124,14 +122,4 @@ fn point_at(calls: &[u8], row: usize, outlets: bool) -> usize
     } else {
         call.input_module * Network::MOST_CHANNELS + call.input_channel
     }
-}
-
-// Marks a slot of a record of use, and tells whether it was marked before.
-pub fn mark(used: &mut [u8], slot: usize) -> bool
-    requires { ⌜ slot < length (now used) ⌝ }
-    ensures { λ before. ⌜ Marked (now (used .entry)) (now (used .exit)) slot before ⌝ }
-{
-    let before = used[slot] == 1;
-    used[slot] = 1;
-    before
 }

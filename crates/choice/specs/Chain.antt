@@ -1,10 +1,15 @@
 -- The chain of the choice rule, as a relation with no bound. On a proper colouring it is one list, without repeats, and it takes with it
 -- every call on the two centrals at every module that it meets; and the bounded search `chain` finds it.
---   Proper f γ k         == no two rows below k share a module of the side f and a central
 --   Two c d x            == x is c or d
 --   Setting γ k h f c d  == the rows below k are proper on both sides, h and f, and c and d are two
 --   Runs γ k h f v c d es == es is the whole chain from module v of the side h, on c there and on d next: it stops only where none continues it
 --   nearModules, farModules h f v es == the modules of the side h, of the side f, at which that chain arrives, v the first
+--   turn                 == after one row the chain has changed its side
+--   chain-is, search-runs == every bound that the chain does not exceed gives it, and the bounded search finds it
+--   rows-of, first-row, closed-far, closed-near == its rows, and that it takes with it every row on the two centrals at a module that it meets
+--   runs-distinct, runs-length == no row is on it twice, so that it has at most k
+--   used-far, used-near, arrived-near, arrived-far == what is in use at its modules, and by which row it arrives
+--   distinct-near, distinct-far == it arrives at no module twice
 use mathlib.Core.Path.{_≡_, refl, sym, ap, _∙_}
 use mathlib.Core.Logic.{_⊎_, inl, inr}
 use mathlib.Core.Option.{Option, none, some}
@@ -12,12 +17,12 @@ use mathlib.Core.List.{List, [], _∷_}
 use Prim.Native.Nat.{ℕ, zero, suc, _+_, _≤_, _<_}
 use native.Mathlib.Omega.{arith}
 use lib.ListN.{length}
-use Rattle.choice.specs.Lists.{In, here, there, not-in-nil, Distinct, few-below}
+use Rattle.ground.specs.Lists.{In, here, there, Distinct}
+use Rattle.ground.specs.ListsLaws.{not-in-nil, few-below}
+use Rattle.ground.specs.Below.{Once}
 use Rattle.choice.specs.Rule.{chain}
-use Rattle.choice.specs.Search.{Free, Standing, row, free, standing}
-
-abbrev pub Proper : (f γ : ℕ → ℕ) → ℕ → Type 0
-Proper f γ k = (i j : ℕ) → i < k → j < k → f i ≡ f j → γ i ≡ γ j → i ≡ j
+use Rattle.choice.specs.Colouring.{Free}
+use Rattle.choice.specs.Search.{Standing, row, free, standing}
 
 abbrev pub Two : (c d x : ℕ) → Type 0
 Two c d x = (x ≡ c) ⊎ (x ≡ d)
@@ -37,12 +42,12 @@ unfoldable mutual
 
 module _ (γ : ℕ → ℕ) (k : ℕ) where
   pub record Setting (h f : ℕ → ℕ) (c d : ℕ) : Type 0 where
-    pub near : Proper h γ k
-    pub far : Proper f γ k
+    pub near : Once h γ k
+    pub far : Once f γ k
     pub apart : c ≡ d → ⊥
 
   -- after one row the chain has changed its side, and looks for the other central
-  turn : {h f : ℕ → ℕ} {c d : ℕ} → Setting h f c d → Setting f h d c
+  pub turn : {h f : ℕ → ℕ} {c d : ℕ} → Setting h f c d → Setting f h d c
   turn s = record { near = s .far; far = s .near; apart = λ e. s .apart (sym e) }
 
   pub data Runs : (h f : ℕ → ℕ) (v c d : ℕ) → List ℕ → Type 0 where

@@ -1,5 +1,7 @@
 -- Counting calls: a module with room has a free central, an overfull module has no proper colouring, and the rows on two centrals are few.
---   atModule f k v == the rows below k at module v of the side f
+--   at-module-iff, count-next, count-here == the rows at a module, and one row more
+--   some-free, overfull-uncoloured == a module with room has a free central, and an overfull one no proper colouring
+--   few           == the rows on two centrals, one free at an input module and one at an output module
 use mathlib.Core.Path.{_≡_, refl, sym, _∙_}
 use mathlib.Core.Logic.{inl, inr, _↔_}
 use mathlib.Core.Bool.{Bool, true, false, cond}
@@ -10,13 +12,13 @@ use native.Mathlib.Omega.{arith}
 use lib.Dec.{T, eqb, eqb→eq, eqb-refl}
 use lib.ListN.{length, length-map}
 use borrow.Author.Tests.{eq-eqb, eqb-true, eqb-false}
-use Rattle.choice.specs.Lists.{In, here, there, Distinct, pigeonhole, few-below, in-map, distinct-map}
+use Rattle.ground.specs.Lists.{In, here, there, Distinct}
+use Rattle.ground.specs.ListsLaws.{pigeonhole, few-below, in-map, distinct-map}
+use Rattle.ground.specs.Below.{Once}
 use Rattle.choice.specs.Rule.{rowOn, isNone, isFree}
-use Rattle.choice.specs.Search.{Free, Standing, row, free, standing, rowsBelow, rows-pass, rows-hold, rows-distinct}
-use Rattle.choice.specs.Chain.{Proper, Two}
-
-abbrev pub atModule : (f : ℕ → ℕ) (k v : ℕ) → List ℕ
-atModule f k v = rowsBelow k (λ i. eqb (f i) v)
+use Rattle.choice.specs.Colouring.{Free, rowsBelow, atModule}
+use Rattle.choice.specs.Search.{Standing, row, free, standing, rows-pass, rows-hold, rows-distinct}
+use Rattle.choice.specs.Chain.{Two}
 
 -- they are the rows below k that stand there
 pub at-module-iff : (f : ℕ → ℕ) (k v i : ℕ) → In i (atModule f k v) ↔ ((i < k) × (f i ≡ v))
@@ -68,9 +70,9 @@ some-free f γ k v order d l full =
     there-too z p = let r = in-map g order p in let w = own (r .0) (r .1) in rw (r .2) (at-module-iff f k v (g (r .0)) .1 (w .0, w .1))
 
 -- an overfull module has no proper colouring: its rows have centrals of their own
-pub overfull : (f γ : ℕ → ℕ) (k v : ℕ) (order : List ℕ) → Proper f γ k → ((i : ℕ) → i < k → In (γ i) order)
+pub overfull-uncoloured : (f γ : ℕ → ℕ) (k v : ℕ) (order : List ℕ) → Once f γ k → ((i : ℕ) → i < k → In (γ i) order)
     → length order < length (atModule f k v) → ⊥
-overfull f γ k v order proper inside l =
+overfull-uncoloured f γ k v order proper inside l =
     omega (arith, pigeonhole (map γ (atModule f k v)) order (distinct-map γ (atModule f k v) (rows-distinct k (λ i. eqb (f i) v)) own) in-order, length-map (atModule f k v) γ)
   where
     own : (x y : ℕ) → In x (atModule f k v) → In y (atModule f k v) → γ x ≡ γ y → x ≡ y
@@ -83,7 +85,7 @@ overfull f γ k v order proper inside l =
 
 -- Where a is free at the input module x, and b at the output module y, the rows on a and b are two fewer than there are modules:
 -- a row on a stands for its input module, a row on b for its output module, and neither x nor y is stood for.
-module _ (α β γ : ℕ → ℕ) (k r a b x y : ℕ) (proper-α : Proper α γ k) (proper-β : Proper β γ k)
+module _ (α β γ : ℕ → ℕ) (k r a b x y : ℕ) (proper-α : Once α γ k) (proper-β : Once β γ k)
     (small-α : (i : ℕ) → i < k → α i < r) (small-β : (i : ℕ) → i < k → β i < r) (small-x : x < r) (small-y : y < r)
     (free-a : Free α γ k x a) (free-b : Free β γ k y b) where
   -- the number of the module, of the 2 * r there are, that the row stands for

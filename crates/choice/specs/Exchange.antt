@@ -1,5 +1,8 @@
 -- A colouring stays proper where two centrals change places on a closed set of rows, and where one more row takes a free central.
 --   Change a b es i x y == row i had central x and has y: y is the other of a and b where i is on es, and x where it is not
+--   exchange-first, exchange-second, exchange-other, one-of, exchange-twice == the exchange of two numbers
+--   length-exchanged, exchanged-at == the exchange on a list of rows
+--   change-together, exchange-proper, place-proper == colourings stay proper
 use mathlib.Core.Path.{_≡_, refl, sym, _∙_}
 use mathlib.Core.Logic.{_⊎_, inl, inr}
 use mathlib.Core.List.{List, [], _∷_}
@@ -9,11 +12,13 @@ use native.Mathlib.Omega.{arith}
 use lib.ListN.{length, set, length-set}
 use lib.Seq.{getD-set-same, getD-set-other}
 use borrow.Author.Tests.{eq-eqb, ne-eqb}
-use Rattle.choice.specs.Lists.{In, here, there, not-in-nil}
+use Rattle.ground.specs.Lists.{In, here, there}
+use Rattle.ground.specs.ListsLaws.{not-in-nil}
+use Rattle.ground.specs.Below.{Once}
+use Rattle.ground.specs.Numbers.{below-suc}
 use Rattle.choice.specs.Rule.{at, exchange, exchanged}
-use Rattle.shelf.specs.Every.{below-suc}
-use Rattle.choice.specs.Search.{Free}
-use Rattle.choice.specs.Chain.{Proper, Two}
+use Rattle.choice.specs.Colouring.{Free}
+use Rattle.choice.specs.Chain.{Two}
 
 -- ---- the exchange of two numbers
 
@@ -96,7 +101,7 @@ module _ (f γ γ′ : ℕ → ℕ) (k a b : ℕ) (es : List ℕ)
       go (kept n e) = e ∙ sym (exchange-other a b (γ q) (λ t. n (closed i q p l m t)))
 
   -- and no two rows come to share a module and a central
-  pub exchange-proper : Proper f γ k → Proper f γ′ k
+  pub exchange-proper : Once f γ k → Once f γ′ k
   exchange-proper proper i j li lj m e = go (change i li) (change j lj)
     where
       -- both rows of a module of the set
@@ -109,7 +114,7 @@ module _ (f γ γ′ : ℕ → ℕ) (k a b : ℕ) (es : List ℕ)
       go (kept n y) (kept o z) = proper i j li lj m (sym y ∙ e ∙ z)
 
 -- one more row, on a central that is free at its module
-pub place-proper : (f γ γ′ : ℕ → ℕ) (k c : ℕ) → ((i : ℕ) → i < k → γ′ i ≡ γ i) → γ′ k ≡ c → Free f γ k (f k) c → Proper f γ k → Proper f γ′ (suc k)
+pub place-proper : (f γ γ′ : ℕ → ℕ) (k c : ℕ) → ((i : ℕ) → i < k → γ′ i ≡ γ i) → γ′ k ≡ c → Free f γ k (f k) c → Once f γ k → Once f γ′ (suc k)
 place-proper f γ γ′ k c same new free proper i j li lj m e = go (below-suc li) (below-suc lj)
   where
     go : (i ≡ k) ⊎ (i < k) → (j ≡ k) ⊎ (j < k) → i ≡ j

@@ -1,5 +1,8 @@
 pub mod Rule
-pub mod Lists
+pub mod Colouring
+pub mod Rows
+pub mod Record
+pub mod Placement
 pub mod Search
 pub mod Chain
 pub mod Exchange
@@ -7,9 +10,9 @@ pub mod Count
 pub mod StepLaws
 pub mod Met
 pub mod PlanLaws
-pub mod Use
-pub mod Order
-pub mod Record
-pub mod Walk
+pub mod UseAfter
+pub mod RowsLaws
 pub mod RecordLaws
-pub mod Placement
+pub mod Agree
+pub mod Mending
+pub mod PlacementLaws

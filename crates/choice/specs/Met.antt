@@ -14,11 +14,13 @@ use native.Mathlib.Omega.{arith}
 use lib.Dec.{eqb}
 use lib.ListN.{length, take, length-take}
 use borrow.Author.Tests.{eq-eqb, ne-eqb}
-use Rattle.shelf.specs.Every.{below-suc}
-use Rattle.choice.specs.Lists.{In, here, there, not-in-nil, Distinct}
-use Rattle.choice.specs.Search.{rowsBelow}
+use Rattle.ground.specs.Numbers.{below-suc}
+use Rattle.ground.specs.Lists.{In, here, there, Distinct}
+use Rattle.ground.specs.ListsLaws.{not-in-nil}
+use Rattle.shelf.specs.Rows.{ModulesBelow}
+use Rattle.choice.specs.Colouring.{rowsBelow}
 use Rattle.choice.specs.Chain.{nearModules, farModules, arrived-near, arrived-far}
-use Rattle.choice.specs.StepLaws.{ModulesBelow, ChainStart, stepChain, chain-runs, chain-rows, chain-modules, chain-few}
+use Rattle.choice.specs.StepLaws.{ChainStart, stepChain, chain-runs, chain-rows, chain-modules, chain-few}
 
 unfoldable pub isMet : List ℕ → ℕ → Bool
 isMet [] v = false

@@ -1,41 +1,39 @@
 -- The record of the centrals in use: one byte for each module of each side and each central. Only this file and its laws
 -- (RecordLaws) know that it is bytes.
---   places               == the modules of both sides of the largest network
---   placeOf output v     == the place of module v, among those of both sides
---   inUse used p c       == central c is in use at the place p
---   bothFree used p q c  == central c is free at both places
+--   modulesOfBoth        == how many modules the two sides of the largest network have
+--   moduleNumber output v == the number of module v among those of both sides
+--   useSlot p c          == where the module of number p and the central c stand in the record
+--   recordSize, nothingUsed == the bytes of the record, and the record of no calls
+--   inUse used p c       == central c is in use at the module of number p
+--   bothFree used p q c  == central c is free at both modules
 --   taking used p c      == the record with c taken there
 --   swapping used p a b  == the record with the use of a and b exchanged there
---   foundBelow m c       == a search below m that answers c found it, or with m found nothing
---   Recorded calls centrals k used == the record says of every module and central whether it is free
---   Placeable, Placed    == what placing a call rests on, and what it leaves
+--   toldCentral c        == what the answer c of a search tells: this central, or none where no shelf has one of that number
+--   Recorded side γ k used == the record says of every module and central whether it is free, of the rows below k
+--   Recordable rows k    == a record can be made of the rows below k
 use mathlib.Core.Path.{_≡_}
 use mathlib.Core.Bool.{Bool, true, false, not, _&&_}
 use mathlib.Core.Option.{Option, none, some}
 use mathlib.Core.List.{List}
-use Prim.Native.Nat.{ℕ, suc, _+_, _*_, _≤_, _<_}
-use lib.Dec.{T, eqb, ltb}
+use Prim.Native.Nat.{ℕ, _+_, _*_, _≤_, _<_}
+use lib.Dec.{eqb, ltb}
 use lib.ListN.{length, getD, set, replicate}
-use Rattle.shelf.specs.declared.Network.{Network}
-use Rattle.shelf.specs.Network.{mostModules, mostCentrals, withinLimits}
-use Rattle.shelf.specs.Rows.{α, β, moduleOf}
-use Rattle.choice.specs.Rule.{at, firstOf, isFree, step}
-use Rattle.choice.specs.Count.{atModule}
-use Rattle.choice.specs.StepLaws.{Fine, ModulesBelow}
-use Rattle.choice.specs.Order.{upFrom, order}
+use Rattle.shelf.specs.Network.{mostModules, mostCentrals}
+use Rattle.choice.specs.Rule.{at, isFree}
+use Rattle.choice.specs.Rows.{moduleIn, centralsOf}
 
-unfoldable pub places : ℕ
-places = 2 * mostModules
+unfoldable pub modulesOfBoth : ℕ
+modulesOfBoth = 2 * mostModules
 
-unfoldable pub placeOf : Bool → ℕ → ℕ
-placeOf false v = v
-placeOf true v = mostModules + v
+unfoldable pub moduleNumber : Bool → ℕ → ℕ
+moduleNumber false v = v
+moduleNumber true v = mostModules + v
 
 unfoldable pub useSlot : ℕ → ℕ → ℕ
 useSlot p c = p * mostCentrals + c
 
 unfoldable pub recordSize : ℕ
-recordSize = places * mostCentrals
+recordSize = modulesOfBoth * mostCentrals
 
 unfoldable pub nothingUsed : List ℕ
 nothingUsed = replicate recordSize 0
@@ -52,32 +50,14 @@ taking used p c = set used (useSlot p c) 1
 unfoldable pub swapping : List ℕ → ℕ → ℕ → ℕ → List ℕ
 swapping used p a b = set (set used (useSlot p a) (getD used (useSlot p b) 0)) (useSlot p b) (getD used (useSlot p a) 0)
 
-unfoldable pub foundBelow : ℕ → ℕ → Option ℕ
-foundBelow m c = elim (ltb c m) [ true ↦ some c | false ↦ none ]
+unfoldable pub toldCentral : ℕ → Option ℕ
+toldCentral c = elim (ltb c mostCentrals) [ true ↦ some c | false ↦ none ]
 
-pub record Recorded (calls centrals : List ℕ) (k : ℕ) (used : List ℕ) : Type 0 where
+pub record Recorded (side : Bool → ℕ → ℕ) (γ : ℕ → ℕ) (k : ℕ) (used : List ℕ) : Type 0 where
   pub size : length used ≡ recordSize
-  pub says : (output : Bool) (v c : ℕ) → v < mostModules → c < mostCentrals
-      → inUse used (placeOf output v) c ≡ not (isFree (moduleOf calls output) (at centrals) k v c)
+  pub says : (output : Bool) (v c : ℕ) → v < mostModules → c < mostCentrals → inUse used (moduleNumber output v) c ≡ not (isFree (side output) γ k v c)
 
--- any colouring of the rows below k that is proper and on the shelf's own centrals, with its record, and room at the modules of row k
-pub record Placeable (net : Network) (calls centrals used : List ℕ) (k : ℕ) : Type 0 where
-  pub limits : T (withinLimits net)
-  pub row : k < length centrals
-  pub rows : 4 * k + 4 ≤ length calls
-  pub modules : ModulesBelow (α calls) (β calls) (net .r) (suc k)
-  pub fine : Fine (α calls) (β calls) (order net) (at centrals) k
-  pub recorded : Recorded calls centrals k used
-  pub room-α : length (atModule (α calls) k (α calls k)) < length (order net)
-  pub room-β : length (atModule (β calls) k (β calls k)) < length (order net)
-
-pub record Placed (net : Network) (calls centrals centrals′ used′ : List ℕ) (k moved : ℕ) : Type 0 where
-  pub by-the-rule : centrals′ ≡ step (α calls) (β calls) (order net) centrals k .centrals
-  pub moved-is : moved ≡ length (step (α calls) (β calls) (order net) centrals k .moved)
-  pub recorded : Recorded calls centrals′ (k + 1) used′
-
--- a search found no central that is free at both modules of row k
-pub record NoCommon (net : Network) (calls used : List ℕ) (k : ℕ) : Type 0 where
-  pub common : ℕ
-  pub none-below : net .m ≤ common
-  pub searched : firstOf (upFrom 0 (net .m)) (bothFree used (placeOf false (α calls k)) (placeOf true (β calls k))) ≡ foundBelow (net .m) common
+pub record Recordable (rows : List ℕ) (k : ℕ) : Type 0 where
+  pub rows-held : 3 * k ≤ length rows
+  pub modules : (output : Bool) (i : ℕ) → i < k → moduleIn rows output i < mostModules
+  pub centrals : (i : ℕ) → i < k → at (centralsOf rows) i < mostCentrals

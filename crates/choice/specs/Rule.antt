@@ -1,6 +1,6 @@
 -- The choice rule, as the scope of work writes it. It speaks of modules as functions of the row, α and β, and of any list
 -- `order` of distinct centrals, in the order in which they are searched; it knows nothing of gratings, bytes or sizes.
--- The rows below k are the calls placed so far; `centrals` has a place for each row of the table, which holds its central.
+-- The rows below k are the calls placed so far; `centrals` are their centrals, in row order.
 --   at centrals i        == the central of row i
 --   rowOn f γ k v c      == the call placed so far that stands at module v of the side f, on central c
 --   isFree f γ k v c     == central c is free at module v of the side f
@@ -9,13 +9,16 @@
 --   exchange a b c       == a for b, b for a
 --   exchanged a b centrals rows == every call of the list changes between a and b
 --   step α β order centrals k   == row k is placed; the chain that this took
---   plan α β order K     == the rows below K are placed, one after the other; how many calls were moved
+--   plan α β order K     == the rows below K are placed, one after the other; the chain that each took
+--   movedBy chains       == how many calls were moved by these chains
+--   firstBelow k p, isNone o == the least number below k that passes the test; a search that found nothing
+--   byChain, Step, Plan    == the case of a chain; what a step, and what the plan, leaves
 use mathlib.Core.Bool.{Bool, true, false, _&&_}
 use mathlib.Core.Option.{Option, none, some}
-use mathlib.Core.List.{List, [], _∷_}
+use mathlib.Core.List.{List, [], _∷_, _++_}
 use Prim.Native.Nat.{ℕ, zero, suc, _+_}
 use lib.Dec.{eqb}
-use lib.ListN.{length, getD, set, replicate}
+use lib.ListN.{length, getD, set}
 
 abbrev pub at : List ℕ → ℕ → ℕ
 at centrals i = getD centrals i 0
@@ -67,32 +70,33 @@ pub record Step : Type 0 where
 -- "otherwise let a be the lowest free at α and b the lowest free at β. A chain starts at β .. The new call takes a." As long
 -- as it ends, a chain has at most as many calls as are placed, k. Where no central is free at a module, the rule says nothing.
 unfoldable pub byChain : (α β : ℕ → ℕ) (centrals : List ℕ) (k : ℕ) → Option ℕ → Option ℕ → Step
-byChain α β centrals k none free-β = record { centrals = centrals; moved = [] }
-byChain α β centrals k (some a) none = record { centrals = centrals; moved = [] }
+byChain α β centrals k none free-β = record { centrals = centrals ++ (0 ∷ []); moved = [] }
+byChain α β centrals k (some a) none = record { centrals = centrals ++ (0 ∷ []); moved = [] }
 byChain α β centrals k (some a) (some b) =
     let es = chain k β α (at centrals) k (β k) a b in
-    record { centrals = set (exchanged a b centrals es) k a; moved = es }
+    record { centrals = exchanged a b centrals es ++ (a ∷ []); moved = es }
 
 -- "if some central is free at α and at β, take the lowest such"
 unfoldable pub step : (α β : ℕ → ℕ) (order centrals : List ℕ) (k : ℕ) → Step
 step α β order centrals k =
     elim (firstOf order (λ c. isFree α (at centrals) k (α k) c && isFree β (at centrals) k (β k) c)) [
-      | some c ↦ record { centrals = set centrals k c; moved = [] }
+      | some c ↦ record { centrals = centrals ++ (c ∷ []); moved = [] }
       | none ↦ byChain α β centrals k (firstOf order (isFree α (at centrals) k (α k))) (firstOf order (isFree β (at centrals) k (β k)))
     ]
 
--- "Calls are taken in row order." "Moved is the number of calls changed, summed over all chains; a call changed twice counts
--- twice."
+-- "Calls are taken in row order." What placing the calls leaves: the centrals, and for each row the chain that placing it took.
 pub record Plan : Type 0 where
   pub centrals : List ℕ
-  pub moved : ℕ
-
-unfoldable pub planFrom : (α β : ℕ → ℕ) (order centrals : List ℕ) (K : ℕ) → Plan
-planFrom α β order centrals zero = record { centrals = centrals; moved = 0 }
-planFrom α β order centrals (suc k) =
-    let before = planFrom α β order centrals k in
-    let after = step α β order (before .centrals) k in
-    record { centrals = after .centrals; moved = before .moved + length (after .moved) }
+  pub chains : List (List ℕ)
 
 unfoldable pub plan : (α β : ℕ → ℕ) (order : List ℕ) (K : ℕ) → Plan
-plan α β order K = planFrom α β order (replicate K 0) K
+plan α β order zero = record { centrals = []; chains = [] }
+plan α β order (suc k) =
+    let before = plan α β order k in
+    let after = step α β order (before .centrals) k in
+    record { centrals = after .centrals; chains = before .chains ++ (after .moved ∷ []) }
+
+-- "Moved is the number of calls changed, summed over all chains; a call changed twice counts twice."
+unfoldable pub movedBy : List (List ℕ) → ℕ
+movedBy [] = 0
+movedBy (es ∷ chains) = length es + movedBy chains

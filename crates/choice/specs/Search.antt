@@ -1,20 +1,27 @@
 -- What the searches of the choice rule find. A search is never reasoned about by its clauses: each has a view that says what its answer means.
 --   Found p k o         == o is the least number below k that passes the test, or none does
 --   Picked order p o    == o is a central of the order that passes the test, or none does
---   Free f γ k v c      == no row below k stands at module v of the side f on central c
 --   Standing f γ k v c o == o is a row below k that stands there, or the central is free there
---   rowsBelow k p       == all numbers below k that pass the test
+--   found, picked, standing, free-iff == each search has its view
+--   first-some, first-none, first-here, first-next, first-over == a search of the order whose answer is known, and one by rising centrals
+--   rows-pass, rows-hold, rows-distinct == the rows that pass a test
 use mathlib.Core.Path.{_≡_, refl}
 use mathlib.Core.Logic.{_⊎_, inl, inr, _↔_}
 use mathlib.Core.Bool.{Bool, true, false}
 use mathlib.Core.Option.{Option, none, some}
 use mathlib.Core.List.{List, [], _∷_}
-use Prim.Native.Nat.{ℕ, zero, suc, _<_}
+use Prim.Native.Nat.{ℕ, zero, suc, _+_, _≤_, _<_}
 use native.Mathlib.Omega.{arith}
 use lib.Dec.{T, eqb, eqb→eq, eqb-refl}
-use Rattle.shelf.specs.Every.{both-is, below-suc}
-use Rattle.choice.specs.Lists.{In, here, there, not-in-nil, Distinct}
+use Rattle.ground.specs.TruthLaws.{both-is}
+use Rattle.ground.specs.Numbers.{below-suc}
+use Rattle.ground.specs.Lists.{In, here, there, Distinct}
+use Rattle.ground.specs.ListsLaws.{not-in-nil}
+use Rattle.shelf.specs.declared.Network.{Network}
+use Rattle.shelf.specs.Order.{orderFrom}
+use Rattle.shelf.specs.OrderLaws.{order-here, order-end}
 use Rattle.choice.specs.Rule.{firstBelow, firstOf, stands, rowOn, isNone, isFree}
+use Rattle.choice.specs.Colouring.{Free, rowsBelow}
 
 -- ---- the least number below k
 
@@ -72,10 +79,21 @@ first-none order p = go (picked order p)
     go (got x m t) e c n u = let z : _≡_ {A = ℕ} 0 1 = cc in omega arith
     go (nothing m) e c n u = m c n u
 
--- ---- a row of a module on a central
+-- the search goes through the order by rising centrals
+module _ (net : Network) (test : ℕ → Bool) (c : ℕ) where
+  pub first-here : c < net .m → test c ≡ true → firstOf (orderFrom net c) test ≡ some c
+  unfolding firstOf
+  first-here l t = rw (order-here net c l, firstOf, t)
 
-abbrev pub Free : (f γ : ℕ → ℕ) (k v c : ℕ) → Type 0
-Free f γ k v c = (q : ℕ) → q < k → f q ≡ v → γ q ≡ c → ⊥
+  pub first-next : c < net .m → test c ≡ false → firstOf (orderFrom net c) test ≡ firstOf (orderFrom net (c + 1)) test
+  unfolding firstOf
+  first-next l t = rw (order-here net c l, firstOf, t)
+
+  pub first-over : net .m ≤ c → firstOf (orderFrom net c) test ≡ none
+  unfolding firstOf
+  first-over l = rw (order-end net c l)
+
+-- ---- a row of a module on a central
 
 pub data Standing (f γ : ℕ → ℕ) (k v c : ℕ) : Option ℕ → Type 0 where
   row : (e : ℕ) → e < k → f e ≡ v → γ e ≡ c → Standing f γ k v c (some e)
@@ -106,10 +124,6 @@ module _ (f γ : ℕ → ℕ) (k v c : ℕ) where
       go (free w) = (λ t. w, λ t. tt)
 
 -- ---- all rows that pass a test
-
-unfoldable pub rowsBelow : ℕ → (ℕ → Bool) → List ℕ
-rowsBelow zero p = []
-rowsBelow (suc k) p = elim (p k) [ true ↦ k ∷ rowsBelow k p | false ↦ rowsBelow k p ]
 
 -- they are below k and pass, every such number is among them, and none is twice
 pub rows-pass : (k : ℕ) (p : ℕ → Bool) (i : ℕ) → In i (rowsBelow k p) → (i < k) × T (p i)

@@ -1,39 +1,37 @@
 -- One step of the choice rule. From any fine colouring of the rows below k it makes a fine colouring of one row more, and moves few calls.
---   Fine α β order γ k        == the rows below k are proper on both sides, and their centrals are of the order
---   ModulesBelow α β r k      == the modules of the rows below k are numbers below r
 --   ChainStart α β γ k a b    == a colouring that is proper on both sides; a is free at the input module of row k, b at its output module; a is not b
 --   stepChain α β γ k a b     == the chain of the step that places row k
 --   afterChain α β centrals k a b == the centrals where the calls of that chain have changed between a and b, and row k has taken a
---   Placing α β order centrals k s == s is what one of the rule's cases leaves: a common central, a chain, or no free central at one of the modules
-use mathlib.Core.Path.{_≡_, refl, sym, _∙_}
+--   StepCase α β order centrals k s == s is what one of the rule's cases leaves: a common central, a chain, or no free central at one of the modules
+--   chain-runs, chain-distinct, chain-rows, chain-avoids, chain-modules, chain-start, chain-closed-α, chain-closed-β, chain-few, chain-change == what is known of that chain
+--   placed-same, placed-new, setting, starts == one row more, and what a chain starts from
+--   step-case, step-common, step-by-chain, searched == the cases of the rule
+--   step-length, step-fine, step-moved == what a step leaves
+use mathlib.Core.Path.{_≡_, sym, ap, _∙_}
 use mathlib.Core.Logic.{_⊎_, inl, inr}
 use mathlib.Core.Bool.{Bool, _&&_}
 use mathlib.Core.Option.{Option, none, some}
-use mathlib.Core.List.{List, []}
+use mathlib.Core.List.{List, [], _∷_, _++_}
 use Prim.Native.Nat.{ℕ, suc, _*_, _-_, _≤_, _<_}
 use native.Mathlib.Omega.{arith}
 use lib.Dec.{T}
-use lib.ListN.{length, set, length-set}
-use lib.Seq.{getD-set-same, getD-set-other}
-use Rattle.shelf.specs.Every.{both-is, below-suc}
-use Rattle.choice.specs.Lists.{In, Distinct}
+use lib.ListN.{length, length-append, List·getD-append}
+use lib.Seq.{getD-at}
+use Rattle.ground.specs.TruthLaws.{both-is}
+use Rattle.ground.specs.Numbers.{below-suc}
+use Rattle.ground.specs.Lists.{In, Distinct}
+use Rattle.ground.specs.Below.{Once}
+use Rattle.shelf.specs.Rows.{ModulesBelow}
 use Rattle.choice.specs.Rule.{at, firstOf, isFree, chain, exchange, exchanged, Step, byChain, step}
-use Rattle.choice.specs.Search.{first-some, first-none, Picked, got, nothing, picked, Free, free-iff}
-use Rattle.choice.specs.Chain.{Proper, Two, nearModules, farModules, Setting, Runs, stop, chain-is, rows-of, first-row, closed-near, closed-far, runs-distinct, search-runs, used-far, distinct-near, distinct-far}
+use Rattle.choice.specs.Colouring.{Free, atModule, Fine}
+use Rattle.choice.specs.Search.{first-some, first-none, Picked, got, nothing, picked, free-iff}
+use Rattle.choice.specs.Chain.{Two, nearModules, farModules, Setting, Runs, stop, chain-is, rows-of, first-row, closed-near, closed-far, runs-distinct, search-runs, used-far, distinct-near, distinct-far}
 use Rattle.choice.specs.Exchange.{exchange-first, exchange-second, Change, changed, kept, length-exchanged, exchanged-at, exchange-proper, place-proper}
-use Rattle.choice.specs.Count.{atModule, some-free, few}
-
-pub record Fine (α β : ℕ → ℕ) (order : List ℕ) (γ : ℕ → ℕ) (k : ℕ) : Type 0 where
-  pub proper-α : Proper α γ k
-  pub proper-β : Proper β γ k
-  pub inside : (i : ℕ) → i < k → In (γ i) order
-
-abbrev pub ModulesBelow : (α β : ℕ → ℕ) (r k : ℕ) → Type 0
-ModulesBelow α β r k = (i : ℕ) → i < k → (α i < r) × (β i < r)
+use Rattle.choice.specs.Count.{some-free, few}
 
 pub record ChainStart (α β γ : ℕ → ℕ) (k a b : ℕ) : Type 0 where
-  pub proper-α : Proper α γ k
-  pub proper-β : Proper β γ k
+  pub proper-α : Once α γ k
+  pub proper-β : Once β γ k
   pub free-a : Free α γ k (α k) a
   pub free-b : Free β γ k (β k) b
   pub apart : a ≡ b → ⊥
@@ -42,12 +40,12 @@ abbrev pub stepChain : (α β γ : ℕ → ℕ) (k a b : ℕ) → List ℕ
 stepChain α β γ k a b = chain k β α γ k (β k) a b
 
 abbrev pub afterChain : (α β : ℕ → ℕ) (centrals : List ℕ) (k a b : ℕ) → List ℕ
-afterChain α β centrals k a b = set (exchanged a b centrals (stepChain α β (at centrals) k a b)) k a
+afterChain α β centrals k a b = exchanged a b centrals (stepChain α β (at centrals) k a b) ++ (a ∷ [])
 
 -- ---- the chain of a step
 
 module _ (α β γ : ℕ → ℕ) (k a b : ℕ) (s : ChainStart α β γ k a b) where
-  setting : Setting γ k β α a b
+  pub setting : Setting γ k β α a b
   setting = record { near = s .proper-β; far = s .proper-α; apart = s .apart }
 
   -- The chain stops only where none continues it: that the search is bounded by k is never what ends it.
@@ -88,39 +86,39 @@ module _ (α β γ : ℕ → ℕ) (k a b : ℕ) (s : ChainStart α β γ k a b) 
       go (inl w) = w
       go (inr w) = absurd (s .free-b q l (w .0) (w .1))
 
-  -- With r modules on each side a chain has at most 2 * r - 2 calls, so that every bound from there on gives the same chain.
+  -- With r modules on each side a chain has at most 2 * r - 2 calls.
   module _ (r : ℕ) (below : ModulesBelow α β r (suc k)) where
     pub chain-few : length (stepChain α β γ k a b) ≤ 2 * r - 2
     chain-few = few α β γ k r a b (α k) (β k) (s .proper-α) (s .proper-β) (λ i l. below i (omega arith) .0) (λ i l. below i (omega arith) .1)
         (below k (omega arith) .0) (below k (omega arith) .1) (s .free-a) (s .free-b) (stepChain α β γ k a b) chain-distinct chain-rows
 
-    pub chain-bound : (n : ℕ) → 2 * r - 2 ≤ n → chain n β α γ k (β k) a b ≡ stepChain α β γ k a b
-    chain-bound n l = chain-is γ k setting chain-runs n (omega (arith, chain-few))
-
 -- ---- the new colouring
 
 -- row k takes the central c, and no other row changes
-pub placed-same : (centrals : List ℕ) (k c i : ℕ) → i < k → at (set centrals k c) i ≡ at centrals i
-placed-same centrals k c i l = getD-set-other centrals k i c 0 (λ e. omega arith)
+pub placed-same : (centrals : List ℕ) (k c i : ℕ) → length centrals ≡ k → i < k → at (centrals ++ (c ∷ [])) i ≡ at centrals i
+placed-same centrals k c i size l = List·getD-append centrals (c ∷ []) 0 i (omega arith)
 
-pub placed-new : (centrals : List ℕ) (k c : ℕ) → k < length centrals → at (set centrals k c) k ≡ c
-placed-new centrals k c room = getD-set-same centrals k c 0 room
+pub placed-new : (centrals : List ℕ) (k c : ℕ) → length centrals ≡ k → at (centrals ++ (c ∷ [])) k ≡ c
+placed-new centrals k c size = getD-at centrals c [] 0 k size
+
+one-more : (centrals : List ℕ) (c : ℕ) → length (centrals ++ (c ∷ [])) ≡ suc (length centrals)
+one-more centrals c = omega (arith, length-append centrals (c ∷ []))
 
 -- one more row takes a central that is free at both its modules
-place : (α β : ℕ → ℕ) (order centrals : List ℕ) (k c : ℕ) → k < length centrals → In c order
-    → Free α (at centrals) k (α k) c → Free β (at centrals) k (β k) c → Fine α β order (at centrals) k → Fine α β order (at (set centrals k c)) (suc k)
-place α β order centrals k c room o free-α free-β w = record {
-  proper-α = place-proper α (at centrals) (at (set centrals k c)) k c (placed-same centrals k c) (placed-new centrals k c room) free-α (w .proper-α);
-  proper-β = place-proper β (at centrals) (at (set centrals k c)) k c (placed-same centrals k c) (placed-new centrals k c room) free-β (w .proper-β);
+take-free : (α β : ℕ → ℕ) (order centrals : List ℕ) (k c : ℕ) → length centrals ≡ k → In c order
+    → Free α (at centrals) k (α k) c → Free β (at centrals) k (β k) c → Fine α β order (at centrals) k → Fine α β order (at (centrals ++ (c ∷ []))) (suc k)
+take-free α β order centrals k c size o free-α free-β w = record {
+  proper-α = place-proper α (at centrals) (at (centrals ++ (c ∷ []))) k c (λ i. placed-same centrals k c i size) (placed-new centrals k c size) free-α (w .proper-α);
+  proper-β = place-proper β (at centrals) (at (centrals ++ (c ∷ []))) k c (λ i. placed-same centrals k c i size) (placed-new centrals k c size) free-β (w .proper-β);
   inside = λ i l. of-order i (below-suc l);
 }
   where
-    of-order : (i : ℕ) → (i ≡ k) ⊎ (i < k) → In (at (set centrals k c) i) order
-    of-order i (inl e) = rw (e, placed-new centrals k c room) o
-    of-order i (inr l) = rw (placed-same centrals k c i l) (w .inside i l)
+    of-order : (i : ℕ) → (i ≡ k) ⊎ (i < k) → In (at (centrals ++ (c ∷ [])) i) order
+    of-order i (inl e) = rw (e, placed-new centrals k c size) o
+    of-order i (inr l) = rw (placed-same centrals k c i size l) (w .inside i l)
 
 -- The exchange on the chain makes a free at both modules of row k, which then takes it.
-module _ (α β : ℕ → ℕ) (centrals : List ℕ) (k a b : ℕ) (room : k < length centrals) (s : ChainStart α β (at centrals) k a b) where
+module _ (α β : ℕ → ℕ) (centrals : List ℕ) (k a b : ℕ) (size : length centrals ≡ k) (s : ChainStart α β (at centrals) k a b) where
   abbrev es : List ℕ
   es = stepChain α β (at centrals) k a b
 
@@ -168,17 +166,17 @@ module _ (α β : ℕ → ℕ) (centrals : List ℕ) (k a b : ℕ) (room : k < l
 
   chain-fine : (order : List ℕ) → In a order → In b order → Fine α β order (at centrals) k → Fine α β order (at (afterChain α β centrals k a b)) (suc k)
   chain-fine order in-a in-b w =
-      place α β order (exchanged a b centrals es) k a (omega (arith, length-exchanged a b centrals es)) in-a still-free comes-free (exchanged-fine order in-a in-b w)
+      take-free α β order (exchanged a b centrals es) k a (length-exchanged a b centrals es ∙ size) in-a still-free comes-free (exchanged-fine order in-a in-b w)
 
 -- ---- the cases of the rule
 
-pub data Placing (α β : ℕ → ℕ) (order centrals : List ℕ) (k : ℕ) : Step → Type 0 where
+pub data StepCase (α β : ℕ → ℕ) (order centrals : List ℕ) (k : ℕ) : Step → Type 0 where
   common : (c : ℕ) → In c order → Free α (at centrals) k (α k) c → Free β (at centrals) k (β k) c
-      → Placing α β order centrals k (record { centrals = set centrals k c; moved = [] })
+      → StepCase α β order centrals k (record { centrals = centrals ++ (c ∷ []); moved = [] })
   by-chain : (a b : ℕ) → In a order → In b order → Free α (at centrals) k (α k) a → Free β (at centrals) k (β k) b → (Free β (at centrals) k (β k) a → ⊥)
-      → Placing α β order centrals k (record { centrals = afterChain α β centrals k a b; moved = stepChain α β (at centrals) k a b })
-  full-α : ((c : ℕ) → In c order → T (isFree α (at centrals) k (α k) c) → ⊥) → Placing α β order centrals k (record { centrals = centrals; moved = [] })
-  full-β : ((c : ℕ) → In c order → T (isFree β (at centrals) k (β k) c) → ⊥) → Placing α β order centrals k (record { centrals = centrals; moved = [] })
+      → StepCase α β order centrals k (record { centrals = afterChain α β centrals k a b; moved = stepChain α β (at centrals) k a b })
+  full-α : ((c : ℕ) → In c order → T (isFree α (at centrals) k (α k) c) → ⊥) → StepCase α β order centrals k (record { centrals = centrals ++ (0 ∷ []); moved = [] })
+  full-β : ((c : ℕ) → In c order → T (isFree β (at centrals) k (β k) c) → ⊥) → StepCase α β order centrals k (record { centrals = centrals ++ (0 ∷ []); moved = [] })
 
 module _ (α β : ℕ → ℕ) (order centrals : List ℕ) (k : ℕ) where
   abbrev at-input : ℕ → Bool
@@ -188,12 +186,12 @@ module _ (α β : ℕ → ℕ) (order centrals : List ℕ) (k : ℕ) where
   at-output c = isFree β (at centrals) k (β k) c
 
   -- every step is one of the rule's cases
-  pub placing : Placing α β order centrals k (step α β order centrals k)
+  pub step-case : StepCase α β order centrals k (step α β order centrals k)
   unfolding step byChain
-  placing = go (picked order (λ c. at-input c && at-output c)) (picked order at-input) (picked order at-output)
+  step-case = go (picked order (λ c. at-input c && at-output c)) (picked order at-input) (picked order at-output)
     where
       go : {o p q : Option ℕ} → Picked order (λ c. at-input c && at-output c) o → Picked order at-input p → Picked order at-output q
-          → Placing α β order centrals k (elim o [ some c ↦ record { centrals = set centrals k c; moved = [] } | none ↦ byChain α β centrals k p q ])
+          → StepCase α β order centrals k (elim o [ some c ↦ record { centrals = centrals ++ (c ∷ []); moved = [] } | none ↦ byChain α β centrals k p q ])
       go (got c o t) x y =
           let z = both-is (at-input c) (at-output c) .0 t in
           common c o (free-iff α (at centrals) k (α k) c .0 (z .0)) (free-iff β (at centrals) k (β k) c .0 (z .1))
@@ -216,7 +214,7 @@ module _ (α β : ℕ → ℕ) (order centrals : List ℕ) (k : ℕ) where
 
   -- the two cases as equations, where the answers of the searches are known; and what those answers mean in the case of a chain
   pub step-common : (c : ℕ) → firstOf order (λ c. isFree α (at centrals) k (α k) c && isFree β (at centrals) k (β k) c) ≡ some c
-      → step α β order centrals k ≡ record { centrals = set centrals k c; moved = [] }
+      → step α β order centrals k ≡ record { centrals = centrals ++ (c ∷ []); moved = [] }
   unfolding step
   step-common c e = rw (e, step)
 
@@ -237,34 +235,34 @@ module _ (α β : ℕ → ℕ) (order centrals : List ℕ) (k : ℕ) where
           λ w. first-none order (λ c. at-input c && at-output c) no-common a (x .0) (both-is (at-input a) (at-output a) .1 (x .1, free-iff β (at centrals) k (β k) a .1 w)),
         )
 
-  -- a step keeps the places of the table
-  pub step-length : length (step α β order centrals k .centrals) ≡ length centrals
-  step-length = go placing
+  -- a step gives one row more a central
+  pub step-length : length (step α β order centrals k .centrals) ≡ suc (length centrals)
+  step-length = go step-case
     where
-      go : {x : Step} → Placing α β order centrals k x → length (x .centrals) ≡ length centrals
-      go (common c o u v) = length-set centrals k c
+      go : {x : Step} → StepCase α β order centrals k x → length (x .centrals) ≡ suc (length centrals)
+      go (common c o u v) = one-more centrals c
       go (by-chain a b o p u v t) =
           let es = stepChain α β (at centrals) k a b in
-          length-set (exchanged a b centrals es) k a ∙ length-exchanged a b centrals es
-      go (full-α n) = refl
-      go (full-β n) = refl
+          one-more (exchanged a b centrals es) a ∙ ap suc (length-exchanged a b centrals es)
+      go (full-α n) = one-more centrals 0
+      go (full-β n) = one-more centrals 0
 
   -- One step: where both modules of row k have room, a fine colouring of the rows below k becomes one of the rows below suc k.
-  pub step-fine : k < length centrals → Distinct order → length (atModule α k (α k)) < length order → length (atModule β k (β k)) < length order
+  pub step-fine : length centrals ≡ k → Distinct order → length (atModule α k (α k)) < length order → length (atModule β k (β k)) < length order
       → Fine α β order (at centrals) k → Fine α β order (at (step α β order centrals k .centrals)) (suc k)
-  step-fine room d room-α room-β w = go placing
+  step-fine size d room-α room-β w = go step-case
     where
-      go : {x : Step} → Placing α β order centrals k x → Fine α β order (at (x .centrals)) (suc k)
-      go (common c o u v) = place α β order centrals k c room o u v w
-      go (by-chain a b o p u v t) = chain-fine α β centrals k a b room (starts w u v t) order o p w
+      go : {x : Step} → StepCase α β order centrals k x → Fine α β order (at (x .centrals)) (suc k)
+      go (common c o u v) = take-free α β order centrals k c size o u v w
+      go (by-chain a b o p u v t) = chain-fine α β centrals k a b size (starts w u v t) order o p w
       go (full-α n) = absurd (some-free α (at centrals) k (α k) order d room-α n)
       go (full-β n) = absurd (some-free β (at centrals) k (β k) order d room-β n)
 
   -- and it moves at most 2 * r - 2 calls
   pub step-moved : Fine α β order (at centrals) k → (r : ℕ) → ModulesBelow α β r (suc k) → length (step α β order centrals k .moved) ≤ 2 * r - 2
-  step-moved w r below = go placing
+  step-moved w r below = go step-case
     where
-      go : {x : Step} → Placing α β order centrals k x → length (x .moved) ≤ 2 * r - 2
+      go : {x : Step} → StepCase α β order centrals k x → length (x .moved) ≤ 2 * r - 2
       go (common c o u v) = omega arith
       go (by-chain a b o p u v t) = chain-few α β (at centrals) k a b (starts w u v t) r below
       go (full-α n) = omega arith

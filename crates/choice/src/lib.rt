@@ -1,199 +1,217 @@
-// One placement of the choice rule: the lowest common central by a record of use, else the chain that exchanges two centrals.
+// One placement of the choice rule: the first common central by a record of use, else the chain that exchanges two centrals.
 // The rule itself, and that it keeps any proper colouring proper, are definitions and laws in specs/.
+//
+// The calls placed so far lie in one slice of rows of three bytes: input module, central, output module.
 ghost use mathlib.Core.Path.{_≡_};
 ghost use mathlib.Core.Bool.{true, false, not};
-ghost use Prim.Native.Nat.{_+_, _*_, _≤_, _<_};
-ghost use lib.ListN.{length};
-ghost use Rattle.shelf.specs.Network.{mostModules, mostCentrals};
-ghost use Rattle.shelf.specs.Rows.{moduleOf};
-ghost use Rattle.choice.specs.Rule.{at, firstOf, rowOn};
-ghost use Rattle.choice.specs.Order.{upFrom};
-ghost use Rattle.choice.specs.Record.{places, placeOf, useSlot, recordSize, inUse, bothFree, taking, swapping, foundBelow, Placeable, Placed, NoCommon};
-ghost use Rattle.choice.specs.Walk.{Walked};
+ghost use Prim.Native.Nat.{_+_, _*_, _-_, _/_, _≤_, _<_};
+ghost use lib.Dec.{T};
+ghost use lib.ListN.{length, set};
+ghost use Rattle.shelf.specs.Network.{mostModules, mostCentrals, mostCalls, withinLimits};
+ghost use Rattle.shelf.specs.Order.{order};
+ghost use Rattle.choice.specs.Rule.{at, firstOf};
+ghost use Rattle.choice.specs.Rows.{moduleIn, centralsOf};
+ghost use Rattle.choice.specs.Record.{modulesOfBoth, moduleNumber, useSlot, recordSize, inUse, bothFree, taking, swapping, toldCentral, Recorded, Recordable};
+ghost use Rattle.choice.specs.Placement.{chainPlaces, besideOf, rowBeside, Mendable, Mended, Placeable, Placed, NoCommon};
 use shelf::Network;
 
 // A byte for each module of each side and each central.
 pub const RECORD: usize = 2 * Network::MOST_MODULES * Network::MOST_CENTRALS;
 
-// What following a chain tells: how many calls it changed, and the module at which it ended.
-pub struct Walk {
-    pub moved: usize,
-    pub last: u8,
-}
+// A place for each row of a chain: it meets no module twice, and that of the new call is met before its first row.
+pub const CHAIN: usize = 2 * Network::MOST_MODULES - 1;
 
-// Places the call of `row`, when the rows before it are placed: it takes the lowest central that is free at both its modules,
-// or the lowest that is free at its input module, after a chain from its output module. Tells how many calls the chain changed.
+// Places the call of `row`, which stands last in `rows`, when the rows before it are placed: it takes the first central that is
+// free at both its modules, or the first that is free at its input module, after a chain from its output module. Tells how many
+// calls the chain changed, and in `chain` their rows, in chain order from the place 2 * r - 2 down.
 // What is asked is any proper colouring of the rows before it with its record, and room at both modules.
 pub fn place(
     net: Network,
-    calls: &[u8],
-    centrals: &mut [u8],
-    used: &mut [u8; RECORD],
+    rows: &mut [u8],
     row: usize,
+    used: &mut [u8; RECORD],
+    chain: &mut [u16; CHAIN],
 ) -> usize
-    requires { ⌜ Placeable net (now calls) (now centrals) (now used) row ⌝ }
-    ensures { λ moved. ⌜ Placed net (now (calls .entry)) (now (centrals .entry)) (now (centrals .exit)) (now (used .exit)) row moved ⌝ }
+    requires { ⌜ Placeable net (now rows) row (now used) (now chain) ⌝ }
+    ensures { λ moved. ⌜ Placed net (now (rows .entry)) (now (rows .exit)) row (now (used .exit)) (now (chain .entry)) (now (chain .exit)) moved ⌝ }
 {
-    let input = place_of(false, module_at(calls, row, false));
-    let output = place_of(true, module_at(calls, row, true));
-    let common = first_common(used, input, output, net.m);
-    if net.m <= common {
-        return place_by_chain(net, calls, centrals, used, row);
+    let input = module_number(rows, row, false);
+    let output = module_number(rows, row, true);
+    let common = first_common(net, used, input, output);
+    if Network::MOST_CENTRALS <= common {
+        return place_by_chain(net, rows, row, used, chain);
     }
-    centrals[row] = common as u8;
-    take(used, input, common);
-    take(used, output, common);
+    rows[3 * row + 1] = common as u8;
+    record_row(used, rows, row);
     0
 }
 
 // The same where no central is free at both modules.
 fn place_by_chain(
     net: Network,
-    calls: &[u8],
-    centrals: &mut [u8],
-    used: &mut [u8; RECORD],
+    rows: &mut [u8],
     row: usize,
+    used: &mut [u8; RECORD],
+    chain: &mut [u16; CHAIN],
 ) -> usize
-    requires { ⌜ Placeable net (now calls) (now centrals) (now used) row × NoCommon net (now calls) (now used) row ⌝ }
-    ensures { λ moved. ⌜ Placed net (now (calls .entry)) (now (centrals .entry)) (now (centrals .exit)) (now (used .exit)) row moved ⌝ }
+    requires { ⌜ Placeable net (now rows) row (now used) (now chain) × NoCommon net (now rows) row (now used) ⌝ }
+    ensures { λ moved. ⌜ Placed net (now (rows .entry)) (now (rows .exit)) row (now (used .exit)) (now (chain .entry)) (now (chain .exit)) moved ⌝ }
 {
-    let module = module_at(calls, row, true);
-    let input = place_of(false, module_at(calls, row, false));
-    let output = place_of(true, module);
-    let a = first_common(used, input, input, net.m);
-    let b = first_common(used, output, output, net.m);
-    let walk = chain_from_output(
-        calls,
-        centrals,
-        row,
-        module,
-        a as u8,
-        b as u8,
-        2 * net.r - 1,
-    );
-    centrals[row] = a as u8;
-    let last = place_of(walk.moved % 2 == 0, walk.last);
-    swap(used, last, a, b);
+    let input = module_number(rows, row, false);
+    let output = module_number(rows, row, true);
+    let a = first_common(net, used, input, input);
+    let b = first_common(net, used, output, output);
+    rows[3 * row + 1] = a as u8;
+    let start = 2 * net.r - 1;
+    let left = chain_from_output(rows, chain, row, b as u8, start);
+    let moved = start - left;
+    let end = module_number(rows, chain[left] as usize, moved % 2 == 0);
+    swap(used, end, a, b);
     take(used, output, b);
     take(used, input, a);
-    walk.moved
+    moved
 }
 
-// The chain from the output module `module`, over the calls of the rows below `count`: the call there on `c`, then at its input
-// module the call on `d`, and so on. Its calls change between `c` and `d`. `left` is the number of the modules not yet met, of
-// both sides: it falls with each call, and is never what ends a chain (specs/Met.antt).
+// The chain from the output module of the row `from`, which has just taken its central: the call beside it there, on the same
+// central, takes the central `other`, and the chain goes on from that call's input module. `left` is the number of the modules
+// not yet met, of both sides: it falls with each call, and is never what ends a chain (specs/Met.antt). The rows are told in
+// `chain`, each at the place of the number left after it; what is told back is the number left at the end.
 fn chain_from_output(
-    calls: &[u8],
-    centrals: &mut [u8],
-    count: usize,
-    module: u8,
-    c: u8,
-    d: u8,
+    rows: &mut [u8],
+    chain: &mut [u16; CHAIN],
+    from: usize,
+    other: u8,
     left: usize,
-) -> Walk
-    requires { ⌜ (4 * count ≤ length (now calls)) × (count ≤ length (now centrals)) ⌝ }
-    ensures { λ w. ⌜ Walked (moduleOf (now (calls .entry)) true) (moduleOf (now (calls .entry)) false) count «module» c d left (now (centrals .entry)) (now (centrals .exit)) w ⌝ }
-{
-    if left == 0 {
-        return Walk {
-            moved: 0,
-            last: module,
-        };
-    }
-    let row = row_on(calls, centrals, count, true, module, c);
-    if count <= row {
-        return Walk {
-            moved: 0,
-            last: module,
-        };
-    }
-    let next = module_at(calls, row, false);
-    let rest = chain_from_input(calls, centrals, count, next, d, c, left - 1);
-    centrals[row] = d;
-    Walk {
-        moved: rest.moved + 1,
-        last: rest.last,
-    }
-}
-
-// The chain from the input module `module`, in the same way, with the sides exchanged.
-fn chain_from_input(
-    calls: &[u8],
-    centrals: &mut [u8],
-    count: usize,
-    module: u8,
-    c: u8,
-    d: u8,
-    left: usize,
-) -> Walk
-    requires { ⌜ (4 * count ≤ length (now calls)) × (count ≤ length (now centrals)) ⌝ }
-    ensures { λ w. ⌜ Walked (moduleOf (now (calls .entry)) false) (moduleOf (now (calls .entry)) true) count «module» c d left (now (centrals .entry)) (now (centrals .exit)) w ⌝ }
-{
-    if left == 0 {
-        return Walk {
-            moved: 0,
-            last: module,
-        };
-    }
-    let row = row_on(calls, centrals, count, false, module, c);
-    if count <= row {
-        return Walk {
-            moved: 0,
-            last: module,
-        };
-    }
-    let next = module_at(calls, row, true);
-    let rest = chain_from_output(calls, centrals, count, next, d, c, left - 1);
-    centrals[row] = d;
-    Walk {
-        moved: rest.moved + 1,
-        last: rest.last,
-    }
-}
-
-// The row below `count` whose call stands at `module` of one side, on `central`; `count` where there is none.
-fn row_on(
-    calls: &[u8],
-    centrals: &[u8],
-    count: usize,
-    output: bool,
-    module: u8,
-    central: u8,
 ) -> usize
-    requires { ⌜ (4 * count ≤ length (now calls)) × (count ≤ length (now centrals)) ⌝ }
-    ensures { λ row. ⌜ (row ≤ count) × (rowOn (moduleOf (now (calls .entry)) output) (at (now (centrals .entry))) count «module» central ≡ foundBelow count row) ⌝ }
+    requires { ⌜ Mendable true (now rows) from other left ⌝ }
+    ensures { λ end. ⌜ Mended true (now (rows .entry)) (now (rows .exit)) (now (chain .entry)) (now (chain .exit)) from other left end ⌝ }
 {
+    let row = row_beside(rows, from, true);
+    if row == from {
+        return left;
+    }
+    let central = central_at(rows, from);
+    change(rows, chain, row, other, left - 1);
+    chain_from_input(rows, chain, row, central, left - 1)
+}
+
+// The chain from the input module of the row `from`, in the same way, with the sides exchanged.
+fn chain_from_input(
+    rows: &mut [u8],
+    chain: &mut [u16; CHAIN],
+    from: usize,
+    other: u8,
+    left: usize,
+) -> usize
+    requires { ⌜ Mendable false (now rows) from other left ⌝ }
+    ensures { λ end. ⌜ Mended false (now (rows .entry)) (now (rows .exit)) (now (chain .entry)) (now (chain .exit)) from other left end ⌝ }
+{
+    let row = row_beside(rows, from, false);
+    if row == from {
+        return left;
+    }
+    let central = central_at(rows, from);
+    change(rows, chain, row, other, left - 1);
+    chain_from_output(rows, chain, row, central, left - 1)
+}
+
+// A call of the chain takes the other central, and is told at a place of `chain`.
+fn change(rows: &mut [u8], chain: &mut [u16; CHAIN], row: usize, other: u8, place: usize)
+    requires { ⌜ (3 * row + 3 ≤ length (now rows)) × (row < mostCalls) × (place < chainPlaces) ⌝ }
+    ensures rows { λ _. ⌜ now (rows .exit) ≡ set (now (rows .entry)) (3 * row + 1) other ⌝ }
+    ensures chain { λ _. ⌜ now (chain .exit) ≡ set (now (chain .entry)) place row ⌝ }
+{
+    rows[3 * row + 1] = other;
+    chain[place] = row as u16;
+}
+
+// The call beside the row `from` at its module of one side, on the same central, among the rows before the last; `from` itself
+// where there is none.
+fn row_beside(rows: &[u8], from: usize, output: bool) -> usize
+    requires { ⌜ 3 * from + 3 ≤ length (now rows) ⌝ }
+    ensures { λ row. ⌜ rowBeside (moduleIn (now (rows .entry)) output) (at (centralsOf (now (rows .entry)))) (length (now (rows .entry)) / 3 - 1) from ≡ besideOf from row ⌝ }
+{
+    let count = rows.len() / 3 - 1;
+    let module = module_at(rows, from, output);
+    let central = central_at(rows, from);
     let mut row = 0;
     while row < count {
-        if module_at(calls, row, output) == module {
-            if centrals[row] == central {
-                return row;
+        if module_at(rows, row, output) == module {
+            if central_at(rows, row) == central {
+                if row != from {
+                    return row;
+                }
             }
         }
         row += 1;
     }
-    row
+    from
 }
 
-// The output module of a row's call, or its input module.
-fn module_at(calls: &[u8], row: usize, output: bool) -> u8
-    requires { ⌜ 4 * row + 4 ≤ length (now calls) ⌝ }
-    ensures { λ v. ⌜ v ≡ moduleOf (now (calls .entry)) output row ⌝ }
+// The output module of a row, or its input module.
+fn module_at(rows: &[u8], row: usize, output: bool) -> u8
+    requires { ⌜ 3 * row + 3 ≤ length (now rows) ⌝ }
+    ensures { λ v. ⌜ v ≡ moduleIn (now (rows .entry)) output row ⌝ }
 {
     if output {
-        calls[4 * row + 2]
+        rows[3 * row + 2]
     } else {
-        calls[4 * row]
+        rows[3 * row]
     }
 }
 
-// The first of the first `count` centrals that is free at both places, or `count` where there is none.
-fn first_common(used: &[u8; RECORD], p: usize, q: usize, count: usize) -> usize
-    requires { ⌜ (p < places) × (q < places) × (count ≤ mostCentrals) ⌝ }
-    ensures { λ c. ⌜ (c ≤ count) × (firstOf (upFrom 0 count) (bothFree (now (used .entry)) p q) ≡ foundBelow count c) ⌝ }
+// The number of a row's module of one side among those of both: the input modules first, then the output modules.
+fn module_number(rows: &[u8], row: usize, output: bool) -> usize
+    requires { ⌜ (3 * row + 3 ≤ length (now rows)) × (moduleIn (now rows) output row < mostModules) ⌝ }
+    ensures { λ number. ⌜ (number ≡ moduleNumber output (moduleIn (now (rows .entry)) output row)) × (number < modulesOfBoth) ⌝ }
+{
+    let module = module_at(rows, row, output) as usize;
+    if output {
+        Network::MOST_MODULES + module
+    } else {
+        module
+    }
+}
+
+// The central of a row.
+fn central_at(rows: &[u8], row: usize) -> u8
+    requires { ⌜ 3 * row + 3 ≤ length (now rows) ⌝ }
+    ensures { λ c. ⌜ c ≡ at (centralsOf (now (rows .entry))) row ⌝ }
+{
+    rows[3 * row + 1]
+}
+
+// The record of the first `count` rows, for any colouring of them.
+pub fn record_of(rows: &[u8], count: usize) -> [u8; RECORD]
+    requires { ⌜ Recordable (now rows) count ⌝ }
+    ensures { λ used. ⌜ Recorded (moduleIn (now (rows .entry))) (at (centralsOf (now (rows .entry)))) count used ⌝ }
+{
+    let mut used = [0u8; RECORD];
+    let mut row = 0;
+    while row < count {
+        record_row(&mut used, rows, row);
+        row += 1;
+    }
+    used
+}
+
+// The record of one row more: its central is taken at both its modules.
+fn record_row(used: &mut [u8; RECORD], rows: &[u8], row: usize)
+    requires { ⌜ Recordable (now rows) (row + 1) × Recorded (moduleIn (now rows)) (at (centralsOf (now rows))) row (now used) ⌝ }
+    ensures { λ _. ⌜ Recorded (moduleIn (now (rows .entry))) (at (centralsOf (now (rows .entry)))) (row + 1) (now (used .exit)) ⌝ }
+{
+    let central = central_at(rows, row) as usize;
+    take(used, module_number(rows, row, false), central);
+    take(used, module_number(rows, row, true), central);
+}
+
+// The first of the shelf's own centrals that is free at both modules, by their numbers; MOST_CENTRALS where there is none.
+fn first_common(net: Network, used: &[u8; RECORD], p: usize, q: usize) -> usize
+    requires { ⌜ (p < modulesOfBoth) × (q < modulesOfBoth) × T (withinLimits net) ⌝ }
+    ensures { λ c. ⌜ firstOf (order net) (bothFree (now (used .entry)) p q) ≡ toldCentral c ⌝ }
 {
     let mut central = 0;
-    while central < count {
+    while central < net.m {
         if is_free(used, p, central) {
             if is_free(used, q, central) {
                 return central;
@@ -201,53 +219,41 @@ fn first_common(used: &[u8; RECORD], p: usize, q: usize, count: usize) -> usize
         }
         central += 1;
     }
-    central
+    Network::MOST_CENTRALS
 }
 
-// Whether a central is free at a place.
-fn is_free(used: &[u8; RECORD], place: usize, central: usize) -> bool
-    requires { ⌜ (place < places) × (central < mostCentrals) ⌝ }
-    ensures { λ b. ⌜ b ≡ not (inUse (now (used .entry)) place central) ⌝ }
+// Whether a central is free at a module.
+fn is_free(used: &[u8; RECORD], module: usize, central: usize) -> bool
+    requires { ⌜ («module» < modulesOfBoth) × (central < mostCentrals) ⌝ }
+    ensures { λ b. ⌜ b ≡ not (inUse (now (used .entry)) «module» central) ⌝ }
 {
-    used[slot(place, central)] != 1
+    used[slot(module, central)] != 1
 }
 
-// A central is taken at a place.
-fn take(used: &mut [u8; RECORD], place: usize, central: usize)
-    requires { ⌜ (place < places) × (central < mostCentrals) ⌝ }
-    ensures { λ _. ⌜ now (used .exit) ≡ taking (now (used .entry)) place central ⌝ }
+// A central is taken at a module.
+fn take(used: &mut [u8; RECORD], module: usize, central: usize)
+    requires { ⌜ («module» < modulesOfBoth) × (central < mostCentrals) ⌝ }
+    ensures { λ _. ⌜ now (used .exit) ≡ taking (now (used .entry)) «module» central ⌝ }
 {
-    used[slot(place, central)] = 1;
+    used[slot(module, central)] = 1;
 }
 
-// Two centrals change places in what is recorded of a place: the one that was in use is free, and the other is in use.
-fn swap(used: &mut [u8; RECORD], place: usize, a: usize, b: usize)
-    requires { ⌜ (place < places) × (a < mostCentrals) × (b < mostCentrals) ⌝ }
-    ensures { λ _. ⌜ now (used .exit) ≡ swapping (now (used .entry)) place a b ⌝ }
+// Two centrals change places in what is recorded of a module: the one that was in use is free, and the other is in use.
+fn swap(used: &mut [u8; RECORD], module: usize, a: usize, b: usize)
+    requires { ⌜ («module» < modulesOfBoth) × (a < mostCentrals) × (b < mostCentrals) ⌝ }
+    ensures { λ _. ⌜ now (used .exit) ≡ swapping (now (used .entry)) «module» a b ⌝ }
 {
-    let first = slot(place, a);
-    let second = slot(place, b);
+    let first = slot(module, a);
+    let second = slot(module, b);
     let kept = used[first];
     used[first] = used[second];
     used[second] = kept;
 }
 
-// Where a place and a central stand in the record.
-fn slot(place: usize, central: usize) -> usize
-    requires { ⌜ (place < places) × (central < mostCentrals) ⌝ }
-    ensures { λ s. ⌜ (s ≡ useSlot place central) × (s < recordSize) ⌝ }
+// Where a module and a central stand in the record.
+fn slot(module: usize, central: usize) -> usize
+    requires { ⌜ («module» < modulesOfBoth) × (central < mostCentrals) ⌝ }
+    ensures { λ s. ⌜ (s ≡ useSlot «module» central) × (s < recordSize) ⌝ }
 {
-    place * Network::MOST_CENTRALS + central
-}
-
-// The place of a module in the record: the input modules first, then the output modules.
-fn place_of(output: bool, module: u8) -> usize
-    requires { ⌜ «module» < mostModules ⌝ }
-    ensures { λ place. ⌜ (place ≡ placeOf output «module») × (place < places) ⌝ }
-{
-    if output {
-        Network::MOST_MODULES + (module as usize)
-    } else {
-        module as usize
-    }
+    module * Network::MOST_CENTRALS + central
 }

@@ -1,31 +1,27 @@
 -- The laws of the grating rule, for any cycle W. Crates above cite these, and never the definitions' text.
 --   remainder-is        [t] is below W, and t is a multiple of W plus [t]
+--   exit-below, between-below     both rules give numbers below W
 --   exit-unique         [x − a] is the only number p below W such that a + p and x leave the same remainder
---   between-exit, exit-between    the two rules are inverse: equation (1) holds where equation (2) does
---   exit-by-.., between-by-..     each is one-to-one in each argument
+--   between-exit, exit-between, exit-iff-between    the two rules are inverse: equation (1) holds where equation (2) does
+--   exit-by-wavelength, exit-by-entry, between-by-exit, between-by-entry    each is one-to-one in each argument
+--   same-entry, same-exit         wavelengths that lead from one port, or to one port, are the same where the other ends are
 use mathlib.Core.Path.{_≡_, refl, sym, ap, _∙_}
 use mathlib.Core.Logic.{_⊎_, inl, inr, _↔_, ⊎-elim}
-use mathlib.Core.Bool.{Bool, true, false}
 use Prim.Native.Nat.{ℕ, zero, suc, _+_, _-_, _*_, _/_, _%_, _<_, _≤_}
 use native.Mathlib.Nat.{mod-lt, mod-eq-of-lt, mod-eq-sub-mod, mod-add-mod, add-mod-mod, add-mul-mod-self-right, div-add-mod', add-comm, suc-mul}
+use native.Mathlib.Decide.{decLt}
 use native.Mathlib.Omega.{arith}
-use lib.Dec.{ltb}
 use lib.IntN.{ℤ, pos, negsuc, subℕ, _+ℤ_, _*ℤ_, negℤ}
-use borrow.Author.Tests.{ltb-true, ltb-false, lt-ltb, le-ltb}
+use borrow.Author.Tests.{lt-ltb, le-ltb}
 use Rattle.grating.specs.Grating.{remainder, exitPort, wavelengthBetween}
-
--- which of two numbers is the less
-pub lt-or-le : (a b : ℕ) → (a < b) ⊎ (b ≤ a)
-lt-or-le a b = go (ltb a b) (ltb-true a b) (ltb-false a b)
-  where
-    go : (t : Bool) → (t ≡ true → a < b) → (t ≡ false → b ≤ a) → (a < b) ⊎ (b ≤ a)
-    go true f g = inl (f refl)
-    go false f g = inr (g refl)
 
 -- a number below twice W: its remainder is itself, or itself less W
 once : (t W : ℕ) → t < W + W → ((t < W) × (t % W ≡ t)) ⊎ ((W ≤ t) × (t % W ≡ t - W))
 once t W h =
-    ⊎-elim (λ l. inl (l, mod-eq-of-lt l)) (λ g. inr (g, mod-eq-sub-mod g ∙ mod-eq-of-lt (omega arith))) (lt-or-le t W)
+    elim (decLt t W) [
+      | yes l ↦ inl (l, mod-eq-of-lt l)
+      | no n ↦ let g : W ≤ t = omega arith in inr (g, mod-eq-sub-mod g ∙ mod-eq-of-lt (omega arith))
+    ]
 
 -- two numbers below W that leave the same remainder when v is added are the same
 cancel : (W v p q : ℕ) → p < W → q < W → (v + p) % W ≡ (v + q) % W → p ≡ q
@@ -46,7 +42,7 @@ module _ (W : ℕ) (h : 0 < W) where
   -- a + [x − a] and x leave the same remainder
   exit-back : (x a : ℕ) → (a + exitPort W x a) % W ≡ x % W
   unfolding exitPort remainder
-  exit-back x a = ⊎-elim less more (lt-or-le x a)
+  exit-back x a = elim (decLt x a) [ yes l ↦ less l | no n ↦ more (omega arith) ]
     where
       less : x < a → (a + remainder W (subℕ x a)) % W ≡ x % W
       less l =

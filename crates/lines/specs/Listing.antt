@@ -1,9 +1,11 @@
 -- From what the reader tells and what the planner answers to the text of the listing: for the code of the entry.
---   Held file told == the places that a whole read tells follow one another within the file
+--   Held file told == the positions that a whole read tells follow one another within the file, and held that they do
+--   calls-few, planned-rows == the rows at these positions stand in calls and settings
 --   told-refused, told-planned, told-calls == what is printed where the reader refuses, of a planned file, and of one of calls only
 --   long-listing, told-listing == the listing of a file that is too long, and of any other
+--   lists, listed-length == a text at the buffer's front is the listing, and the buffer keeps its length
 --   refused-calls, placed-calls == what is printed of calls where the planner refuses, and where it places them
---   listed-length  == the buffer keeps its length
+--   placed-rows    == all rows stand in the settings that it wrote
 --   one-answer     == two answers that satisfy the entry's guarantee are the same
 use mathlib.Core.Path.{_≡_, sym, ap, _∙_}
 use mathlib.Core.List.{List}
@@ -12,20 +14,21 @@ use native.Mathlib.Omega.{arith}
 use lib.ListN.{length, take, drop, length-append, length-drop}
 use lib.Seq.{take-at}
 use borrow.Author.Tests.{eq-eqb, ne-eqb, lt-ltb, le-ltb}
+use Rattle.ground.specs.Bytes.{front, Adds}
+use Rattle.ground.specs.BytesLaws.{length-part, adds-front, adds-same}
 use Rattle.shelf.specs.declared.Network.{Network}
-use Rattle.shelf.specs.Network.{cycle, mostCalls}
+use Rattle.shelf.specs.Network.{mostCalls}
 use Rattle.shelf.specs.Rows.{rowCount}
-use Rattle.choice.specs.Rule.{at}
 use Rattle.planner.specs.declared.Planned.{Planned}
-use Rattle.planner.specs.Planner.{settingsRows, plannerVerdict, chosen, planAnswer, planBuffer, Plans}
-use Rattle.planner.specs.SettingsLaws.{settings-length}
+use Rattle.planner.specs.Planner.{plannerVerdict, plannedSettings, planAnswer, planBuffer, Plans}
+use Rattle.planner.specs.SettingsLaws.{planned-length}
 use Rattle.planfile.specs.declared.Told.{Told}
-use Rattle.planfile.specs.File.{planned, longestFile, front}
-use Rattle.planfile.specs.FileLaws.{planned-distance, settings-most, length-part, rows-part}
+use Rattle.planfile.specs.File.{planned, longestFile}
+use Rattle.planfile.specs.FileLaws.{planned-distance, settings-most, rows-part}
 use Rattle.planfile.specs.Reader.{trailerAt, layoutOf, wholeTold, readAnswer, callsIn, settingsIn, netOf}
-use Rattle.planfile.specs.ReaderLaws.{laid-out, reader-passes, whole-answer, answer-passes}
+use Rattle.planfile.specs.ReaderLaws.{laid-out, reader-passes, read-whole, read-passes}
 use Rattle.lines.specs.Text.{decimal, tooLongText, refusedText, tableText, plannedText, callsText, toldText, listing}
-use Rattle.lines.specs.Writing.{Adds, Lists, HasRows, adds-same, adds-front}
+use Rattle.lines.specs.Writing.{Lists, HasRows}
 
 pub record Held (file : List ℕ) (told : Told) : Type 0 where
   pub calls-end : told .«calls_at» + 4 * told .count ≡ told .«settings_at»
@@ -44,11 +47,11 @@ module _ (file : List ℕ) (told : Told) (e : told ≡ readAnswer file) where
     pub held : Held file told
     unfolding wholeTold layoutOf
     held =
-        let p = answer-passes file (sym (ap (λ (t : Told). t .number) e) ∙ z) in
+        let p = read-passes file (sym (ap (λ (t : Told). t .number) e) ∙ z) in
         let stated = reader-passes file .0 p .0 in
         let laid = laid-out file stated in
         let most = settings-most (layoutOf file .kind) (layoutOf file .count) in
-        rw (e, whole-answer file p) (record {
+        rw (e, read-whole file p) (record {
           calls-end = laid .calls-end;
           settings-end = λ k. ap (λ (d : ℕ). layoutOf file .«settings_at» + d) (sym (planned-distance (layoutOf file .kind) (layoutOf file .count) k)) ∙ laid .settings-end;
           settings-inside = omega (arith, laid .settings-end);
@@ -111,17 +114,17 @@ module _ (net : Network) (calls before after : List ℕ) (a : Planned) (p : Plan
 
   module _ (z : a .number ≡ 0) where
     -- the settings stand at the front of the planner's buffer
-    pub placed-settings : take (3 * rowCount calls) after ≡ settingsRows (cycle net) calls (at (chosen net calls .centrals)) (rowCount calls)
+    placed-settings : take (3 * rowCount calls) after ≡ plannedSettings net calls
     unfolding planBuffer planAnswer
     placed-settings =
         let v : plannerVerdict net calls (length before) .number ≡ 0 = sym (ap (λ (b : Planned). b .number) (p .answer)) ∙ z in
         ap (take (3 * rowCount calls)) (p .buffer ∙ rw (eq-eqb (plannerVerdict net calls (length before) .number) 0 v))
-        ∙ take-at _ (drop (3 * rowCount calls) before) (3 * rowCount calls) (settings-length (cycle net) calls (at (chosen net calls .centrals)) (rowCount calls))
+        ∙ take-at _ (drop (3 * rowCount calls) before) (3 * rowCount calls) (planned-length net calls)
 
     pub placed-rows : rowCount calls ≤ mostCalls → HasRows calls (take (3 * rowCount calls) after)
     placed-rows few = record {
       few = few;
-      settings-length = rw placed-settings (omega (arith, settings-length (cycle net) calls (at (chosen net calls .centrals)) (rowCount calls)));
+      settings-length = rw placed-settings (omega (arith, planned-length net calls));
     }
 
     pub placed-calls : tableText net calls (take (3 * rowCount calls) after) (decimal (a .moved)) ≡ callsText net calls

@@ -1,7 +1,9 @@
 -- The text that the listing prints, as a function of the file's bytes.
 --   space, newline, dash  == the bytes between the words of a line, after a line, and in the place of a moved count
---   decimal n             == the decimal digits of n as bytes, the highest first: no zero leads, and 0 is `0`
+--   decimal n             == the decimal digits of n as bytes, the highest first: no zero leads, and 0 is `0`; digits steps n, at most
+--                            so many of them
 --   line words            == a line of these words: one space between, a newline after
+--   tooWord, longWord, refusedWord, rowWord == the words `too`, `long`, `refused` and `row`
 --   tooLongText           == `too long`
 --   refusedText C R       == `refused C row R`
 --   firstLine net K moved == the first line: n, m, r, K and the word for the moved count
@@ -16,10 +18,9 @@ use Prim.Native.Nat.{ℕ, zero, suc, _+_, _*_, _/_, _%_}
 use lib.Dec.{eqb, ltb}
 use lib.ListN.{length}
 use Rattle.shelf.specs.declared.Network.{Network}
-use Rattle.shelf.specs.Network.{cycle, mostCalls}
+use Rattle.shelf.specs.Network.{mostCalls}
 use Rattle.shelf.specs.Rows.{rowCount, α, ω, β, ω', x, γ, y}
-use Rattle.choice.specs.Rule.{at}
-use Rattle.planner.specs.Planner.{settingsRows, chosen, planAnswer}
+use Rattle.planner.specs.Planner.{plannedSettings, planAnswer}
 use Rattle.planfile.specs.declared.Told.{Told}
 use Rattle.planfile.specs.File.{planned, longestFile}
 use Rattle.planfile.specs.Reader.{readAnswer, callsIn, settingsIn, netOf}
@@ -92,7 +93,7 @@ unfoldable pub callsText : Network → List ℕ → List ℕ
 callsText net calls =
     let answer = planAnswer net calls (3 * mostCalls) in
     cond (eqb (answer .number) 0)
-    (tableText net calls (settingsRows (cycle net) calls (at (chosen net calls .centrals)) (rowCount calls)) (decimal (answer .moved)))
+    (tableText net calls (plannedSettings net calls) (decimal (answer .moved)))
     (refusedText (answer .number) (answer .row))
 
 unfoldable pub toldText : List ℕ → Told → List ℕ

@@ -1,6 +1,12 @@
 -- Laws of the text: a number's digits one by one and how many there are, and a line as the numbers before its last word.
---   tens k == 1 with k zeros behind it
---   RowWidths i call light == how many digits the numbers of a row's line have at most
+--   decimal-one, decimal-more == a number of one digit, and the last digit of another
+--   number-length          == how many digits any number in the code has at most
+--   spaced-more, spaced-room == one number more with a space behind it, and that there is room for it among all of them
+--   table-text-is, planned-text-is, too-long-is, refused-is == the texts as they are written
+--   sizes-length           == the room that the sizes and K take
+--   listing-room, first-line-room == the longest listing has room for a first line, and behind it for the lines of all rows
+--   RowWidths i call light == how many digits the numbers of a row's line have at most, and row-widths that they do
+--   numbers ..             == the numbers of a row's line before the last, and row-line-told that they are that line
 use mathlib.Core.Path.{_≡_, refl, sym, ap, _∙_}
 use mathlib.Core.Bool.{Bool, true, false}
 use mathlib.Core.List.{List, [], _∷_, _++_, append-assoc}
@@ -15,7 +21,7 @@ use Rattle.shelf.specs.declared.SettingsRow.{SettingsRow}
 use Rattle.shelf.specs.Network.{mostCalls}
 use Rattle.shelf.specs.Rows.{rowCount, α, ω, β, ω', x, γ, y, CallRead, SettingsRead}
 use Rattle.lines.specs.Text.{space, newline, digits, decimal, line, tooWord, longWord, tooLongText, refusedWord, rowWord, refusedText, firstLine, rowLine, rowLines, tableText, plannedText, dash}
-use Rattle.lines.specs.Writing.{byteDigits, rowDigits, numberDigits, mostSizes, spaced}
+use Rattle.lines.specs.Writing.{byteDigits, rowDigits, numberDigits, mostSizes, mostFirstLine, mostRowLine, longestListing, spaced}
 
 -- more steps than the number has change nothing
 same-digits : (s t n : ℕ) → n < s → n < t → digits s n ≡ digits t n
@@ -37,12 +43,13 @@ pub decimal-more : (n : ℕ) → 10 ≤ n → decimal n ≡ decimal (n / 10) ++ 
 unfolding decimal digits
 decimal-more n h = rw (le-ltb n 10 h) (ap (λ (d : List ℕ). d ++ (48 + n % 10) ∷ []) (same-digits n (suc (n / 10)) (n / 10) (omega arith) (omega arith)))
 
-unfoldable pub tens : ℕ → ℕ
+-- 1 with k zeros behind it
+unfoldable tens : ℕ → ℕ
 tens zero = 1
 tens (suc k) = 10 * tens k
 
 -- how many digits there are
-pub decimal-length : (k n : ℕ) → n < tens (suc k) → length (decimal n) ≤ suc k
+decimal-length : (k n : ℕ) → n < tens (suc k) → length (decimal n) ≤ suc k
 unfolding tens
 decimal-length zero n h = rw (decimal-one n (omega arith)) (omega arith)
 decimal-length (suc k) n h = go (decimal-length k (n / 10) (omega arith)) (ltb n 10) refl
@@ -52,11 +59,11 @@ decimal-length (suc k) n h = go (decimal-length k (n / 10) (omega arith)) (ltb n
     go rest false e = rw (decimal-more n (ltb-false n 10 e)) (simp length-append (omega arith))
 
 -- of a byte, of a row's number, and of any number in the code
-pub byte-length : (n : ℕ) → n < 256 → length (decimal n) ≤ byteDigits
+byte-length : (n : ℕ) → n < 256 → length (decimal n) ≤ byteDigits
 unfolding byteDigits tens
 byte-length n h = decimal-length 2 n (omega arith)
 
-pub row-length : (n : ℕ) → n < mostCalls → length (decimal n) ≤ rowDigits
+row-length : (n : ℕ) → n < mostCalls → length (decimal n) ≤ rowDigits
 unfolding rowDigits mostCalls tens
 row-length n h = decimal-length 3 n (omega arith)
 
@@ -81,7 +88,7 @@ spaced-room (number ∷ numbers) zero h = simp length-append (omega arith)
 spaced-room (number ∷ numbers) (suc i) h = simp length-append (omega (arith, spaced-room numbers i (omega arith)))
 
 -- the words of a first line, of a row's line, of a refusal and of a file that is too long, as they are written
-pub first-line-is : (net : Network) (K : ℕ) (moved : List ℕ)
+first-line-is : (net : Network) (K : ℕ) (moved : List ℕ)
     → firstLine net K moved ≡ spaced (net .n ∷ net .m ∷ net .r ∷ K ∷ []) ++ moved ++ newline ∷ []
 unfolding firstLine line spaced
 first-line-is net K moved = simp append-assoc
@@ -96,7 +103,7 @@ pub planned-text-is : (net : Network) (calls settings : List ℕ)
 unfolding plannedText dash newline
 planned-text-is net calls settings = table-text-is net calls settings (dash ∷ []) ∙ simp append-assoc
 
-pub row-line-is : (calls settings : List ℕ) (i : ℕ)
+row-line-is : (calls settings : List ℕ) (i : ℕ)
     → rowLine calls settings i ≡ spaced (i ∷ α calls i ∷ ω calls i ∷ x settings i ∷ γ settings i ∷ y settings i ∷ β calls i ∷ []) ++ decimal (ω' calls i) ++ newline ∷ []
 unfolding rowLine line spaced
 row-line-is calls settings i = simp append-assoc
@@ -115,6 +122,14 @@ pub sizes-length : (n m r K : ℕ) → length (decimal n) ≤ numberDigits → l
     → length (spaced (n ∷ m ∷ r ∷ K ∷ [])) ≤ mostSizes
 unfolding spaced mostSizes
 sizes-length n m r K a b c d = simp length-append (omega arith)
+
+-- the longest listing has room for a first line, and behind it for the lines of all rows
+pub listing-room : (K : ℕ) → K ≤ mostCalls → mostFirstLine + mostRowLine * K ≤ longestListing
+unfolding longestListing mostRowLine byteDigits rowDigits
+listing-room K h = omega arith
+
+pub first-line-room : mostFirstLine ≤ longestListing
+first-line-room = omega (arith, listing-room 0 (omega arith))
 
 pub record RowWidths (i : ℕ) (call : CallRow) (light : SettingsRow) : Type 0 where
   pub row : length (decimal i) ≤ rowDigits

@@ -1,13 +1,14 @@
-// The text of the listing program: a plan file's rows in decimal, or why the file is refused. Every function puts its text into
-// a buffer that is lent, from a place on, and tells the place behind it. The text itself is stated in specs/Text.antt.
+// The text of the listing program: a plan file's rows in decimal, or why the file is refused. Every function writes its text into
+// a buffer that is lent, from a position on, and tells the position behind it. The text itself is stated in specs/Text.antt.
 ghost use mathlib.Core.List.{[], _∷_, _++_};
 ghost use Prim.Native.Nat.{_+_, _*_, _≤_, _<_};
 ghost use lib.ListN.{length};
+ghost use Rattle.ground.specs.Bytes.{Adds};
 ghost use Rattle.shelf.specs.Network.{mostCalls};
 ghost use Rattle.shelf.specs.Rows.{rowCount};
 ghost use Rattle.planfile.specs.Reader.{readAnswer};
 ghost use Rattle.lines.specs.Text.{newline, decimal, refusedText, rowLine, rowLines, tableText, plannedText, callsText, toldText};
-ghost use Rattle.lines.specs.Writing.{mostSizes, mostFirstLine, mostRowLine, longestListing, spaced, HasRow, HasRows, Adds, Lists};
+ghost use Rattle.lines.specs.Writing.{mostSizes, mostFirstLine, mostRowLine, longestListing, spaced, HasRow, HasRows, Lists};
 use shelf::CallRow;
 use shelf::Network;
 use shelf::SettingsRow;
@@ -31,34 +32,16 @@ const ROW_LINE: usize = (ROW_DIGITS + 1) + 7 * (BYTE_DIGITS + 1);
 // A buffer of so many bytes has room for every listing.
 pub const LONGEST_LISTING: usize = FIRST_LINE + ROW_LINE * Network::MOST_CALLS;
 
-// Writes one byte.
-fn write_byte(out: &mut [u8], at: usize, byte: u8) -> usize
-    requires { ⌜ at < length (now out) ⌝ }
-    ensures { λ next. ⌜ Adds (now (out .entry)) (now (out .exit)) at next (byte ∷ []) ⌝ }
-{
-    out[at] = byte;
-    at + 1
-}
-
-// Writes all bytes of a word.
-fn write_word(out: &mut [u8], at: usize, word: &[u8]) -> usize
-    requires { ⌜ at + length (now word) ≤ length (now out) ⌝ }
-    ensures { λ next. ⌜ Adds (now (out .entry)) (now (out .exit)) at next (now (word .entry)) ⌝ }
-{
-    planfile::copy_in(word, out, at);
-    at + word.len()
-}
-
 // Writes a number in decimal: the digits before its last one, and the last one.
 fn write_number(out: &mut [u8], at: usize, value: usize) -> usize
     requires { ⌜ at + length (decimal value) ≤ length (now out) ⌝ }
     ensures { λ next. ⌜ Adds (now (out .entry)) (now (out .exit)) at next (decimal value) ⌝ }
 {
     if value < 10 {
-        return write_byte(out, at, (ZERO + value) as u8);
+        return ground::write_byte(out, at, (ZERO + value) as u8);
     }
     let last = write_number(out, at, value / 10);
-    write_byte(out, last, (ZERO + value % 10) as u8)
+    ground::write_byte(out, last, (ZERO + value % 10) as u8)
 }
 
 // Writes numbers, each with a space behind it.
@@ -70,7 +53,7 @@ fn write_numbers(out: &mut [u8], at: usize, numbers: &[usize]) -> usize
     let mut i = 0;
     while i < numbers.len() {
         let end = write_number(out, next, numbers[i]);
-        next = write_byte(out, end, b' ');
+        next = ground::write_byte(out, end, b' ');
         i += 1;
     }
     next
@@ -83,7 +66,7 @@ fn write_line(out: &mut [u8], at: usize, numbers: &[usize], last: usize) -> usiz
 {
     let last_at = write_numbers(out, at, numbers);
     let end = write_number(out, last_at, last);
-    write_byte(out, end, b'\n')
+    ground::write_byte(out, end, b'\n')
 }
 
 // Writes the line of one row.
@@ -134,11 +117,11 @@ fn write_refusal(out: &mut [u8], number: usize, row: usize) -> usize
     requires { ⌜ mostFirstLine ≤ length (now out) ⌝ }
     ensures { λ next. ⌜ Adds (now (out .entry)) (now (out .exit)) 0 next (refusedText number row) ⌝ }
 {
-    let number_at = write_word(out, 0, b"refused ");
+    let number_at = ground::write_bytes(out, 0, b"refused ");
     let word_at = write_number(out, number_at, number);
-    let row_at = write_word(out, word_at, b" row ");
+    let row_at = ground::write_bytes(out, word_at, b" row ");
     let end = write_number(out, row_at, row);
-    write_byte(out, end, b'\n')
+    ground::write_byte(out, end, b'\n')
 }
 
 // Lists a planned file: the settings are those that the file holds, and a dash stands for the moved count.
@@ -147,7 +130,7 @@ fn list_accepted(net: Network, calls: &[u8], settings: &[u8], out: &mut [u8]) ->
     ensures { λ next. ⌜ Adds (now (out .entry)) (now (out .exit)) 0 next (plannedText net (now (calls .entry)) (now (settings .entry))) ⌝ }
 {
     let moved_at = write_sizes(out, net.n, net.m, net.r, calls.len() / 4);
-    let rows_at = write_word(out, moved_at, b"-\n");
+    let rows_at = ground::write_bytes(out, moved_at, b"-\n");
     write_rows(out, rows_at, calls, settings)
 }
 
@@ -158,7 +141,7 @@ fn list_placed(net: Network, calls: &[u8], settings: &[u8], moved: usize, out: &
 {
     let moved_at = write_sizes(out, net.n, net.m, net.r, calls.len() / 4);
     let end = write_number(out, moved_at, moved);
-    let rows_at = write_byte(out, end, b'\n');
+    let rows_at = ground::write_byte(out, end, b'\n');
     write_rows(out, rows_at, calls, settings)
 }
 
@@ -210,7 +193,7 @@ pub fn list(file: &[u8], out: &mut [u8; LONGEST_LISTING]) -> usize
     ensures { λ size. ⌜ Lists (now (file .entry)) (now (out .entry)) (now (out .exit)) size ⌝ }
 {
     if planfile::LONGEST_FILE < file.len() {
-        return write_word(out, 0, b"too long\n");
+        return ground::write_bytes(out, 0, b"too long\n");
     }
     list_told(file, out)
 }

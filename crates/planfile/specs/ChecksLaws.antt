@@ -1,5 +1,6 @@
 -- What it means that the checks of sizes, lengths and rows pass: the table is in order and, if planned, its settings are lawful.
 --   Measured kind net calls settings == what sizes and lengths are that 1, 2 and 3 do not refuse
+--   measured, table-lawful == what it means that the checks of sizes and lengths, and those of the rows, pass
 --   most-rows            == the most bytes of calls and settings
 --   longest-file, longest-reached, longest-is == no file of such parts is longer than the longest, a planned one with the longest
 --                           note and the most calls is as long, and that is 7,435 bytes
@@ -16,11 +17,10 @@ use Rattle.shelf.specs.declared.Network.{Network}
 use Rattle.shelf.specs.Network.{withinLimits, mostCalls}
 use Rattle.shelf.specs.Rows.{rowCount}
 use Rattle.shelf.specs.Light.{Lawful}
-use Rattle.calls.specs.Verdict.{_⨾_}
-use Rattle.calls.specs.VerdictLaws.{then-passes}
+use Rattle.calls.specs.VerdictLaws.{turn-passes}
 use Rattle.calls.specs.Table.{sizeChecks, callChecks, InOrder}
-use Rattle.calls.specs.TableLaws.{size-checks-pass, call-checks-pass}
-use Rattle.acceptance.specs.Acceptance.{unlawfulRow}
+use Rattle.calls.specs.TableLaws.{size-checks-pass, in-order-is}
+use Rattle.acceptance.specs.Acceptance.{unlawfulRow, rowChecks}
 use Rattle.acceptance.specs.Exactly.{rows-lawful}
 use Rattle.planfile.specs.File.{planned, trailerLength, mostNote, settingsPerCall, settingsDistance, fileOf, longestFile}
 use Rattle.planfile.specs.FileLaws.{planned-distance, settings-most, length-file}
@@ -35,15 +35,12 @@ pub record Measured (kind : ℕ) (net : Network) (calls settings : List ℕ) : T
 -- the checks of the rows pass where those of the calls do and, for a planned file, those of the settings
 table-passes : (net : Network) (kind : ℕ) (calls settings : List ℕ)
     → (tableChecks net kind calls settings .number ≡ 0) ↔ ((callChecks net calls .number ≡ 0) × (kind ≡ planned → unlawfulRow net calls settings .number ≡ 0))
-unfolding tableChecks
+unfolding tableChecks rowChecks
 table-passes net kind calls settings = go (eqb kind planned) refl
   where
-    go : (b : Bool) → eqb kind planned ≡ b → (cond b (callChecks net calls ⨾ unlawfulRow net calls settings) (callChecks net calls) .number ≡ 0)
+    go : (b : Bool) → eqb kind planned ≡ b → (cond b (rowChecks net calls settings) (callChecks net calls) .number ≡ 0)
         ↔ ((callChecks net calls .number ≡ 0) × (kind ≡ planned → unlawfulRow net calls settings .number ≡ 0))
-    go true e = (
-      λ h. let p = then-passes (callChecks net calls) (unlawfulRow net calls settings) .0 h in (p .0, λ k. p .1),
-      λ h. then-passes (callChecks net calls) (unlawfulRow net calls settings) .1 (h .0, h .1 (eqb-true kind planned e)),
-    )
+    go true e = Iff·trans (turn-passes _) (λ (table, (rows, _)). (table, λ k. rows), λ h. (h .0, (h .1 (eqb-true kind planned e), tt)))
     go false e = (λ h. (h, λ k. absurd (eqb-false kind planned e k)), λ h. h .0)
 
 module _ (kind : ℕ) (net : Network) (calls settings : List ℕ) where
@@ -58,15 +55,13 @@ module _ (kind : ℕ) (net : Network) (calls settings : List ℕ) where
 
   pub table-lawful : Measured kind net calls settings
       → (tableChecks net kind calls settings .number ≡ 0) ↔ (InOrder net calls × (kind ≡ planned → Lawful net calls settings))
+  unfolding settingsDistance
   table-lawful h = Iff·trans (table-passes net kind calls settings) (
-    λ p. let o = order (p .0) in (o, λ k. rows-lawful net calls settings o .0 (p .1 k, h .settings-length ∙ planned-distance kind (rowCount calls) k)),
-    λ p. (call-checks-pass net calls .1 (p .0 .inside, p .0 .inlets, p .0 .outlets), λ k. rows-lawful net calls settings (p .0) .1 (p .1 k) .0),
+    λ p.
+        let table = in-order-is net calls (length settings) (settingsPerCall kind) .0 (measured .1 h, p .0) .0 in
+        (table, λ k. rows-lawful net calls settings table .0 (p .1 k, h .settings-length ∙ planned-distance kind (rowCount calls) k)),
+    λ p. (in-order-is net calls (length settings) (settingsPerCall kind) .1 (p .0, h .settings-length) .1, λ k. rows-lawful net calls settings (p .0) .1 (p .1 k) .0),
   )
-    where
-      order : callChecks net calls .number ≡ 0 → InOrder net calls
-      order z =
-          let rows = call-checks-pass net calls .0 z in
-          record { limits = h .limits; whole = h .whole; few = h .few; inside = rows .0; inlets = rows .1; outlets = rows .2 }
 
   -- the most bytes of rows, and "The longest file is 7,435 bytes."
   module _ (h : Measured kind net calls settings) where

@@ -1,20 +1,18 @@
 -- The plan file's layout, stated once.
 --   callsOnly, planned    == the two kinds of file, and aKind kind that it is one of them
 --   trailerLength, mostNote == the bytes of a trailer, and the most that a note may have
---   firstMark, secondMark == the mark at the trailer's end
+--   mark                  == the mark at the trailer's end
 --   settingsPerCall kind  == the bytes of settings for each call
 --   settingsDistance kind K, callsDistance kind K == how far back from the trailer's start settings and calls begin
---   highByte v, lowByte v == the two bytes of a number, and numberAt bytes i the number of two bytes
 --   trailerOf net kind K  == the trailer's 12 bytes
 --   fileOf net kind note calls settings == the whole file
 --   longestFile           == the bytes of the longest file
---   part file from to     == the bytes of a file from one place up to another
---   placed buffer at bytes == the buffer with these bytes in it from a place on; front buffer bytes, at its front
-use mathlib.Core.Bool.{Bool, cond, _||_}
+use mathlib.Core.Bool.{Bool, cond}
 use mathlib.Core.List.{List, [], _∷_, _++_}
-use Prim.Native.Nat.{ℕ, _+_, _-_, _*_, _/_, _%_}
+use Prim.Native.Nat.{ℕ, _+_, _*_}
 use lib.Dec.{eqb}
-use lib.ListN.{length, getD, take, drop}
+use Rattle.ground.specs.Truth.{any}
+use Rattle.ground.specs.Bytes.{highByte, lowByte}
 use Rattle.shelf.specs.declared.Network.{Network}
 use Rattle.shelf.specs.Network.{mostCalls}
 use Rattle.shelf.specs.Rows.{rowCount}
@@ -27,7 +25,7 @@ unfoldable pub planned : ℕ
 planned = 2
 
 unfoldable pub aKind : ℕ → Bool
-aKind kind = eqb kind callsOnly || eqb kind planned
+aKind kind = any (eqb kind callsOnly ∷ eqb kind planned ∷ [])
 
 -- "12 trailer bytes"; "a note (0 to 255 bytes of any value)"
 unfoldable pub trailerLength : ℕ
@@ -36,12 +34,9 @@ trailerLength = 12
 unfoldable pub mostNote : ℕ
 mostNote = 255
 
--- "the mark 41 57 hexadecimal": 4 · 16 + 1 and 5 · 16 + 7
-unfoldable pub firstMark : ℕ
-firstMark = 65
-
-unfoldable pub secondMark : ℕ
-secondMark = 87
+-- "the mark 41 57 hexadecimal", two bytes as one number
+unfoldable pub mark : ℕ
+mark = 0x4157
 
 -- "K settings rows if planned", of 3 bytes each
 unfoldable pub settingsPerCall : ℕ → ℕ
@@ -55,16 +50,6 @@ settingsDistance kind K = settingsPerCall kind * K
 unfoldable pub callsDistance : ℕ → ℕ → ℕ
 callsDistance kind K = 4 * K + settingsDistance kind K
 
--- "Two-byte numbers have the high byte first."
-unfoldable pub highByte : ℕ → ℕ
-highByte v = v / 256 % 256
-
-unfoldable pub lowByte : ℕ → ℕ
-lowByte v = v % 256
-
-unfoldable pub numberAt : List ℕ → ℕ → ℕ
-numberAt bytes i = getD bytes i 0 * 256 + getD bytes (i + 1) 0
-
 -- "12 trailer bytes: n, m, r, kind .., K (2 bytes), distance .. back to the first settings row (2 bytes ..), distance back to
 -- the first call row (2 bytes ..), and the mark"
 unfoldable pub trailerOf : Network → ℕ → ℕ → List ℕ
@@ -73,7 +58,7 @@ trailerOf net kind K =
     ∷ highByte K ∷ lowByte K
     ∷ highByte (settingsDistance kind K) ∷ lowByte (settingsDistance kind K)
     ∷ highByte (callsDistance kind K) ∷ lowByte (callsDistance kind K)
-    ∷ firstMark ∷ secondMark ∷ []
+    ∷ highByte mark ∷ lowByte mark ∷ []
 
 -- "the trailer stands last and points back. A file is a note .., K call rows, K settings rows if planned, and 12 trailer bytes"
 unfoldable pub fileOf : Network → ℕ → List ℕ → List ℕ → List ℕ → List ℕ
@@ -82,12 +67,3 @@ fileOf net kind note calls settings = note ++ calls ++ settings ++ trailerOf net
 -- "The longest file is 7,435 bytes.": the longest note, the most calls, and their settings
 unfoldable pub longestFile : ℕ
 longestFile = mostNote + 4 * mostCalls + 3 * mostCalls + trailerLength
-
-unfoldable pub part : List ℕ → ℕ → ℕ → List ℕ
-part file from to = take (to - from) (drop from file)
-
-unfoldable pub placed : List ℕ → ℕ → List ℕ → List ℕ
-placed buffer at bytes = take at buffer ++ bytes ++ drop (at + length bytes) buffer
-
-unfoldable pub front : List ℕ → List ℕ → List ℕ
-front buffer bytes = bytes ++ drop (length bytes) buffer

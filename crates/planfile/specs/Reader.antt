@@ -1,38 +1,40 @@
 -- What reading a file answers, as a function of its bytes.
 --   trailerAt file        == where the trailer starts, and trailerIn file its bytes
---   toldNet, toldKind, toldCount, toldSettingsBack, toldCallsBack == what the bytes of a trailer say
+--   toldNet, toldKind, toldCount, toldSettingsBack, toldCallsBack, toldMark == what the bytes of a trailer say
 --   isTrailer t           == the mark stands at the end, and the kind is one of the two
---   placesStated ..       == the distances are as stated, no more than the file holds, and leave a note of at most 255 bytes;
---                            placesTold t start is that of the distances in a trailer
+--   distancesStated ..    == the distances are as stated, no more than the file holds, and leave a note of at most 255 bytes;
+--                            distancesTold t start is that of the distances in a trailer
+--   noTrailer file, badDistances t start == 14 and 15
 --   trailerVerdict file   == 14, 1, 3 and 15, in this order
 --   layoutOf file         == the layout that the trailer tells
 --   wholeTold layout, refusedTold v == what a reader tells of a whole file, and of a refusal
 --   toldBy answer         == the number and the values of each case of an answer
 --   answerOf v layout     == the answer: a refusal where v is one, else the layout
 --   trailerAnswer file    == what taking the trailer apart answers
---   noteIn, callsIn, settingsIn == the parts of a file at the places told, and netOf the network told
---   layoutChecks file layout == the checks of the rows at the layout's places
+--   noteIn, callsIn, settingsIn == the parts of a file at the positions told, and netOf the network told
+--   layoutChecks file layout == the checks of the rows at the layout's positions
 --   readerVerdict file, readAnswer file == the reader's number and row, and all that it tells
 --   LaidOut, TakenApart, WholeFile, Reads == what the functions guarantee
---   toldOf net kind note calls == what a reader tells of the file of these parts, and GivenBack that the parts there are these
 use mathlib.Core.Path.{_≡_}
-use mathlib.Core.Bool.{Bool, not, cond, _&&_, _||_}
-use mathlib.Core.List.{List}
+use mathlib.Core.Bool.{Bool, not, cond}
+use mathlib.Core.List.{List, [], _∷_}
 use Prim.Native.Nat.{ℕ, _+_, _-_, _*_, _≤_}
 use lib.Dec.{T, eqb, leb, ltb}
 use lib.ListN.{length, getD}
+use Rattle.ground.specs.Truth.{all, any}
+use Rattle.ground.specs.Bytes.{numberAt, part}
 use Rattle.shelf.specs.declared.Network.{Network}
-use Rattle.shelf.specs.Network.{withinLimits, mostCalls}
+use Rattle.shelf.specs.Network.{withinLimits}
 use Rattle.shelf.specs.Rows.{rowCount}
 use Rattle.shelf.specs.Light.{Lawful}
 use Rattle.calls.specs.declared.Verdict.{Verdict}
-use Rattle.calls.specs.Verdict.{success, refusedIf, _⨾_}
-use Rattle.calls.specs.Table.{badSizes, InOrder}
+use Rattle.calls.specs.Verdict.{refusedIf, inTurn, answer}
+use Rattle.calls.specs.Table.{badSizes, tooManyCalls, InOrder}
 use Rattle.planfile.specs.declared.Layout.{Layout}
 use Rattle.planfile.specs.declared.Told.{Told}
 use Rattle.planfile.specs.declared.Trailer.{Trailer}
 use Rattle.planfile.specs.declared.Trailer.the-variants.{Whole, Refused}
-use Rattle.planfile.specs.File.{callsOnly, planned, aKind, trailerLength, mostNote, firstMark, secondMark, settingsDistance, callsDistance, numberAt, fileOf, part}
+use Rattle.planfile.specs.File.{callsOnly, planned, aKind, trailerLength, mostNote, mark, settingsDistance, callsDistance, fileOf}
 use Rattle.planfile.specs.Checks.{tableChecks}
 
 -- "the trailer stands last and points back"
@@ -57,32 +59,41 @@ toldSettingsBack t = numberAt t 6
 unfoldable pub toldCallsBack : List ℕ → ℕ
 toldCallsBack t = numberAt t 8
 
+unfoldable pub toldMark : List ℕ → ℕ
+toldMark t = numberAt t 10
+
 -- 14: "file under 12 bytes, wrong mark, or kind not 1 or 2"
 unfoldable pub isTrailer : List ℕ → Bool
-isTrailer t = eqb (getD t 10 0) firstMark && eqb (getD t 11 0) secondMark && aKind (toldKind t)
+isTrailer t = all (eqb (toldMark t) mark ∷ aKind (toldKind t) ∷ [])
 
 unfoldable pub noTrailer : List ℕ → Verdict
-noTrailer file = refusedIf 14 0 (ltb (length file) trailerLength || not (isTrailer (trailerIn file)))
-
--- 3: "K above 1,024"
-unfoldable pub tooManyTold : List ℕ → Verdict
-tooManyTold t = refusedIf 3 0 (ltb mostCalls (toldCount t))
+noTrailer file = refusedIf 14 0 (any (ltb (length file) trailerLength ∷ not (isTrailer (trailerIn file)) ∷ []))
 
 -- 15: "distances not as stated, or more than the file holds, or a note above 255 bytes"
-unfoldable pub placesStated : ℕ → ℕ → ℕ → ℕ → ℕ → Bool
-placesStated kind K settingsBack callsBack start =
-    eqb settingsBack (settingsDistance kind K) && eqb callsBack (callsDistance kind K) && leb callsBack start && leb (start - callsBack) mostNote
+unfoldable pub distancesStated : ℕ → ℕ → ℕ → ℕ → ℕ → Bool
+distancesStated kind K settingsBack callsBack start =
+    all
+    (eqb settingsBack (settingsDistance kind K)
+    ∷ eqb callsBack (callsDistance kind K)
+    ∷ leb callsBack start
+    ∷ leb (start - callsBack) mostNote
+    ∷ [])
 
-unfoldable pub placesTold : List ℕ → ℕ → Bool
-placesTold t start = placesStated (toldKind t) (toldCount t) (toldSettingsBack t) (toldCallsBack t) start
+unfoldable pub distancesTold : List ℕ → ℕ → Bool
+distancesTold t start = distancesStated (toldKind t) (toldCount t) (toldSettingsBack t) (toldCallsBack t) start
 
-unfoldable pub badPlaces : List ℕ → ℕ → Verdict
-badPlaces t start = refusedIf 15 0 (not (placesTold t start))
+unfoldable pub badDistances : List ℕ → ℕ → Verdict
+badDistances t start = refusedIf 15 0 (not (distancesTold t start))
 
 -- "The trailer is taken apart first; a file that lacks one is turned away before a row is touched." "File reader: 14, 1, 3, 15"
 unfoldable pub trailerVerdict : List ℕ → Verdict
 trailerVerdict file =
-    noTrailer file ⨾ badSizes (toldNet (trailerIn file)) ⨾ tooManyTold (trailerIn file) ⨾ badPlaces (trailerIn file) (trailerAt file)
+    inTurn
+    (noTrailer file
+    ∷ badSizes (toldNet (trailerIn file))
+    ∷ tooManyCalls (toldCount (trailerIn file))
+    ∷ badDistances (trailerIn file) (trailerAt file)
+    ∷ [])
 
 unfoldable pub layoutOf : List ℕ → Layout
 layoutOf file = record {
@@ -136,7 +147,7 @@ answerOf v layout = cond (eqb (v .number) 0) (Whole layout) (Refused v)
 unfoldable pub trailerAnswer : List ℕ → Trailer
 trailerAnswer file = answerOf (trailerVerdict file) (layoutOf file)
 
--- the parts of a file at the places told
+-- the parts of a file at the positions told
 unfoldable pub noteIn : List ℕ → Told → List ℕ
 noteIn file told = part file (told .«note_at») (told .«calls_at»)
 
@@ -156,14 +167,14 @@ layoutChecks file layout =
 
 -- "File reader: 14, 1, 3, 15, then as acceptance from 5."
 unfoldable pub readerVerdict : List ℕ → Verdict
-readerVerdict file = trailerVerdict file ⨾ layoutChecks file (layoutOf file) ⨾ success (layoutOf file .count)
+readerVerdict file = answer (trailerVerdict file ∷ layoutChecks file (layoutOf file) ∷ []) (layoutOf file .count)
 
 unfoldable pub readAnswer : List ℕ → Told
 readAnswer file = toldBy (answerOf (readerVerdict file) (layoutOf file))
 
 -- ---- what is guaranteed
 
--- a layout whose places follow one another, within a file of this length
+-- a layout whose positions follow one another, within a file of this length
 pub record LaidOut (size : ℕ) (layout : Layout) : Type 0 where
   pub limits : T (withinLimits (layout .net))
   pub calls-end : layout .«calls_at» + 4 * layout .count ≡ layout .«settings_at»
@@ -175,7 +186,7 @@ pub record TakenApart (file : List ℕ) (answer : Trailer) : Type 0 where
   -- the number of its case: that of 14, 1, 3 and 15 in this order, else 0
   pub number : toldBy answer .number ≡ trailerVerdict file .number
 
--- a file that was read: it is the file of the parts at the places told
+-- a file that was read: it is the file of the parts at the positions told
 pub record WholeFile (file : List ℕ) (told : Told) : Type 0 where
   pub is-file : file ≡ fileOf (netOf told) (told .kind) (noteIn file told) (callsIn file told) (settingsIn file told)
   pub tells-K : (told .row ≡ rowCount (callsIn file told)) × (told .count ≡ rowCount (callsIn file told))
@@ -193,26 +204,3 @@ pub record Reads (file : List ℕ) (told : Told) : Type 0 where
   -- "A refused read tells zero for all of these."
   pub zeros : (told .number ≡ 0 → ⊥) → told ≡ refusedTold (record { number = told .number; row = told .row })
   pub whole : told .number ≡ 0 → WholeFile file told
-
--- ---- what writing then reading gives back
-
--- "n, m, r, kind, K and where note, calls and settings begin"
-unfoldable pub toldOf : Network → ℕ → List ℕ → List ℕ → Told
-toldOf net kind note calls = record {
-  number = 0;
-  row = rowCount calls;
-  n = net .n;
-  m = net .m;
-  r = net .r;
-  kind = kind;
-  count = rowCount calls;
-  «note_at» = 0;
-  «calls_at» = length note;
-  «settings_at» = length note + length calls;
-}
-
-pub record GivenBack (net : Network) (kind : ℕ) (note calls settings file : List ℕ) (told : Told) : Type 0 where
-  pub tells : told ≡ toldOf net kind note calls
-  pub note-back : noteIn file told ≡ note
-  pub calls-back : callsIn file told ≡ calls
-  pub settings-back : settingsIn file told ≡ settings

@@ -1,14 +1,14 @@
 // Plan files: a note, call rows, settings rows if planned, and a trailer that stands last and points back. Any bytes are
 // read or refused. How a file is laid out is stated once, in specs/File.antt, for the reader here and the writers above.
 ghost use mathlib.Core.Path.{_≡_};
-ghost use Prim.Native.Nat.{_+_, _*_, _≤_, _<_};
+ghost use Prim.Native.Nat.{_*_, _≤_};
 ghost use lib.Dec.{T};
 ghost use lib.ListN.{length};
 ghost use Rattle.shelf.specs.Network.{withinLimits, mostCalls, sized};
 ghost use Rattle.shelf.specs.Rows.{rowCount};
-ghost use Rattle.planfile.specs.File.{trailerLength, settingsPerCall, settingsDistance, callsDistance, numberAt, placed};
+ghost use Rattle.planfile.specs.File.{trailerLength, settingsPerCall, settingsDistance, callsDistance};
 ghost use Rattle.planfile.specs.Checks.{tableChecks};
-ghost use Rattle.planfile.specs.Reader.{toldNet, isTrailer, placesStated, wholeTold, toldBy, LaidOut, TakenApart, layoutChecks, Reads};
+ghost use Rattle.planfile.specs.Reader.{toldNet, isTrailer, distancesStated, toldBy, LaidOut, TakenApart, layoutChecks, Reads};
 use calls::Verdict;
 use shelf::Network;
 use shelf::Sized;
@@ -40,10 +40,8 @@ const CALLS_BACK_AT: usize = 8;
 
 const MARK_AT: usize = 10;
 
-// The mark at a trailer's end.
-pub const FIRST_MARK: u8 = 0x41;
-
-pub const SECOND_MARK: u8 = 0x57;
+// The mark at a trailer's end, two bytes as one number.
+pub const MARK: usize = 0x4157;
 
 // What a reader tells: number and row, the network's sizes, the kind, K, and where note, calls and settings begin. A refused
 // read tells zero for all but number and row. Programs in C share this record.
@@ -84,13 +82,13 @@ pub fn read(file: &[u8]) -> Told
 {
     let answer = take_trailer(file);
     let Trailer::Whole(layout) = answer else {
-        return refused_read(answer);
+        return told_by(answer);
     };
     let rows = check_layout(file, layout);
     if rows.number != 0 {
-        return refused_read(Trailer::Refused(rows));
+        return told_by(Trailer::Refused(rows));
     }
-    whole_read(layout)
+    told_by(answer)
 }
 
 // Takes the trailer apart: the layout, or refusal 14, 1, 3 or 15.
@@ -108,13 +106,13 @@ pub fn take_trailer(file: &[u8]) -> Trailer
     let Sized::Made(net) = network_in(trailer) else {
         return Trailer::Refused(Verdict { number: 1, row: 0 });
     };
-    let kind = shelf::byte_at(trailer, KIND_AT);
-    let count = number_at(trailer, COUNT_AT);
+    let kind = ground::byte_at(trailer, KIND_AT);
+    let count = ground::number_at(trailer, COUNT_AT);
     if Network::MOST_CALLS < count {
         return Trailer::Refused(Verdict { number: 3, row: 0 });
     }
-    let settings_back = number_at(trailer, SETTINGS_BACK_AT);
-    let calls_back = number_at(trailer, CALLS_BACK_AT);
+    let settings_back = ground::number_at(trailer, SETTINGS_BACK_AT);
+    let calls_back = ground::number_at(trailer, CALLS_BACK_AT);
     if !are_stated(kind, count, settings_back, calls_back, trailer_at) {
         return Trailer::Refused(Verdict { number: 15, row: 0 });
     }
@@ -133,13 +131,10 @@ fn is_trailer(trailer: &[u8]) -> bool
     requires { ⌜ trailerLength ≤ length (now trailer) ⌝ }
     ensures { λ b. ⌜ b ≡ isTrailer (now (trailer .entry)) ⌝ }
 {
-    if trailer[MARK_AT] != FIRST_MARK {
+    if ground::number_at(trailer, MARK_AT) != MARK {
         return false;
     }
-    if trailer[MARK_AT + 1] != SECOND_MARK {
-        return false;
-    }
-    let kind = shelf::byte_at(trailer, KIND_AT);
+    let kind = ground::byte_at(trailer, KIND_AT);
     if kind == CALLS_ONLY {
         return true;
     }
@@ -152,20 +147,10 @@ fn network_in(trailer: &[u8]) -> Sized
     ensures { λ s. ⌜ s ≡ sized (toldNet (now (trailer .entry))) ⌝ }
 {
     Network::new(
-        shelf::byte_at(trailer, 0),
-        shelf::byte_at(trailer, 1),
-        shelf::byte_at(trailer, 2),
+        ground::byte_at(trailer, 0),
+        ground::byte_at(trailer, 1),
+        ground::byte_at(trailer, 2),
     )
-}
-
-// The two-byte number that stands at a place, its high byte first.
-pub fn number_at(bytes: &[u8], at: usize) -> usize
-    requires { ⌜ at + 2 ≤ length (now bytes) ⌝ }
-    ensures { λ number. ⌜ (number ≡ numberAt (now (bytes .entry)) at) × (number < 65536) ⌝ }
-{
-    let high = shelf::byte_at(bytes, at);
-    let low = shelf::byte_at(bytes, at + 1);
-    high * 256 + low
 }
 
 // Whether the distances are as stated for the kind and K, no more than stands before the trailer, and leave a note that is
@@ -178,7 +163,7 @@ fn are_stated(
     start: usize,
 ) -> bool
     requires { ⌜ count ≤ mostCalls ⌝ }
-    ensures { λ b. ⌜ b ≡ placesStated kind count «settings_back» «calls_back» start ⌝ }
+    ensures { λ b. ⌜ b ≡ distancesStated kind count «settings_back» «calls_back» start ⌝ }
 {
     if settings_back != settings_distance(kind, count) {
         return false;
@@ -215,12 +200,27 @@ pub fn calls_distance(kind: usize, count: usize) -> usize
     4 * count + settings_distance(kind, count)
 }
 
-// What a read tells that ends with this answer: of a refusal its number and row, and zero for all else.
-fn refused_read(answer: Trailer) -> Told
+// What a reader tells that ends with this answer: of a whole file 0 and K, and its layout, where the note stands first; of a refusal
+// its number and row, and zero for all else.
+fn told_by(answer: Trailer) -> Told
     ensures { λ told. ⌜ told ≡ toldBy answer ⌝ }
 {
     match answer {
-        Trailer::Whole(layout) => whole_read(layout),
+        Trailer::Whole(layout) => {
+            let net = layout.net;
+            Told {
+                number: 0,
+                row: layout.count,
+                n: net.n,
+                m: net.m,
+                r: net.r,
+                kind: layout.kind,
+                count: layout.count,
+                note_at: 0,
+                calls_at: layout.calls_at,
+                settings_at: layout.settings_at,
+            }
+        }
         Trailer::Refused(refusal) => Told {
             number: refusal.number,
             row: refusal.row,
@@ -233,25 +233,6 @@ fn refused_read(answer: Trailer) -> Told
             calls_at: 0,
             settings_at: 0,
         },
-    }
-}
-
-// What a reader tells of a whole file: 0 and K, and its layout. The note stands first.
-fn whole_read(layout: Layout) -> Told
-    ensures { λ told. ⌜ told ≡ wholeTold layout ⌝ }
-{
-    let net = layout.net;
-    Told {
-        number: 0,
-        row: layout.count,
-        n: net.n,
-        m: net.m,
-        r: net.r,
-        kind: layout.kind,
-        count: layout.count,
-        note_at: 0,
-        calls_at: layout.calls_at,
-        settings_at: layout.settings_at,
     }
 }
 
@@ -281,16 +262,4 @@ pub fn check_table(net: Network, kind: usize, calls: &[u8], settings: &[u8]) -> 
         return calls::check_calls(net, calls);
     }
     acceptance::check_rows(net, calls, settings)
-}
-
-// Copies all of `source` into `out`, from `at` on. Texts of listings are copied by it too.
-pub fn copy_in(source: &[u8], out: &mut [u8], at: usize)
-    requires { ⌜ at + length (now source) ≤ length (now out) ⌝ }
-    ensures { λ _. ⌜ now (out .exit) ≡ placed (now (out .entry)) at (now (source .entry)) ⌝ }
-{
-    let mut i = 0;
-    while i < source.len() {
-        out[at + i] = source[i];
-        i += 1;
-    }
 }

@@ -1,7 +1,7 @@
 -- Overfull modules: what refusal 8 finds, row by row, is a module with more calls than there are centrals.
 --   fits-is             == a row is not overfull exactly where its modules have room for it
 --   rows-modules, modules-rows == from rows to modules, and back
---   overfull-passes, none-overfull-passes == 8 passes exactly where no module is overfull
+--   overfull-passes, none-overfull == 8 passes exactly where no row overfills a module, so where no module is overfull
 --   some-overfull       == where it does not, some module is
 use mathlib.Core.Path.{_≡_}
 use mathlib.Core.Logic.{_↔_, Iff·trans, ⊎-elim}
@@ -13,36 +13,26 @@ use native.Mathlib.Omega.{arith}
 use lib.Dec.{T, ltb, ltb→lt}
 use lib.ListN.{length}
 use borrow.Author.Tests.{eq-eqb, ne-eqb}
+use Rattle.ground.specs.TruthLaws.{any-is, none-is}
+use Rattle.ground.specs.Numbers.{at-most-is}
 use Rattle.shelf.specs.declared.Network.{Network}
 use Rattle.shelf.specs.Rows.{rowCount, α, β, moduleOf}
-use Rattle.shelf.specs.Every.{either-is, neither-is}
-use Rattle.calls.specs.TableLaws.{less-is, every-row, some-row}
-use Rattle.choice.specs.Search.{rowsBelow}
-use Rattle.choice.specs.Count.{atModule, count-next}
-use Rattle.choice.specs.PlanLaws.{Fits}
-use Rattle.choice.specs.Order.{order}
+use Rattle.shelf.specs.Order.{order}
+use Rattle.calls.specs.TableLaws.{every-row, some-row}
+use Rattle.choice.specs.Colouring.{rowsBelow}
+use Rattle.choice.specs.Count.{count-next}
+use Rattle.choice.specs.Colouring.{atModule, Fits}
+use Rattle.planner.specs.Steps.{AllFit}
 use Rattle.planner.specs.Planner.{overfull, overfullRow, NoneOverfull, SomeOverfull}
 
 pub fits-is : (net : Network) (calls : List ℕ) (i : ℕ) → T (not (overfull net calls i)) ↔ (Fits (α calls) (order net) i × Fits (β calls) (order net) i)
 unfolding overfull
-fits-is net calls i = (
-  λ h. let t = neither-is (ltb L a) (ltb L b) .0 h in (fewer a .0 (t .0), fewer b .0 (t .1)),
-  λ h. neither-is (ltb L a) (ltb L b) .1 (fewer a .1 (h .0), fewer b .1 (h .1)),
+fits-is net calls i = Iff·trans (none-is _) (
+  λ h. (at-most-is _ _ .0 (h .0), at-most-is _ _ .0 (h .1 .0)),
+  λ h. (at-most-is _ _ .1 (h .0), (at-most-is _ _ .1 (h .1), tt)),
 )
-  where
-    L : ℕ
-    L = length (order net)
 
-    a : ℕ
-    a = length (atModule (α calls) (suc i) (α calls i))
-
-    b : ℕ
-    b = length (atModule (β calls) (suc i) (β calls i))
-
-    fewer : (t : ℕ) → T (not (ltb L t)) ↔ (t ≤ L)
-    fewer t = (λ h. let l = less-is (suc L) t .0 h in omega arith, λ h. less-is (suc L) t .1 (omega arith))
-
-pub overfull-passes : (net : Network) (calls : List ℕ) → (overfullRow net calls .number ≡ 0) ↔ ((i : ℕ) → i < rowCount calls → Fits (α calls) (order net) i × Fits (β calls) (order net) i)
+pub overfull-passes : (net : Network) (calls : List ℕ) → (overfullRow net calls .number ≡ 0) ↔ AllFit net calls
 unfolding overfullRow
 overfull-passes net calls = Iff·trans (every-row 7 (rowCount calls) (overfull net calls)) (
   λ h i l. fits-is net calls i .0 (h i l),
@@ -72,13 +62,14 @@ module _ (f : ℕ → ℕ) (ord : List ℕ) where
   pub modules-rows : (k : ℕ) → ((v : ℕ) → length (atModule f k v) ≤ length ord) → (i : ℕ) → i < k → Fits f ord i
   modules-rows k h i l = omega (arith, count-grows (f i) (suc i) k l, h (f i))
 
-pub none-overfull-passes : (net : Network) (calls : List ℕ) → (overfullRow net calls .number ≡ 0) ↔ NoneOverfull net calls
-none-overfull-passes net calls = Iff·trans (overfull-passes net calls) (
-  (λ h output v. sides h output v),
-  (λ h i l. (modules-rows (α calls) (order net) (rowCount calls) (h false) i l, modules-rows (β calls) (order net) (rowCount calls) (h true) i l)),
+-- no row overfills a module exactly where no module is overfull
+pub none-overfull : (net : Network) (calls : List ℕ) → AllFit net calls ↔ NoneOverfull net calls
+none-overfull net calls = (
+  λ h output v. sides h output v,
+  λ h i l. (modules-rows (α calls) (order net) (rowCount calls) (h false) i l, modules-rows (β calls) (order net) (rowCount calls) (h true) i l),
 )
   where
-    sides : ((i : ℕ) → i < rowCount calls → Fits (α calls) (order net) i × Fits (β calls) (order net) i) → (output : Bool) (v : ℕ) → length (atModule (moduleOf calls output) (rowCount calls) v) ≤ length (order net)
+    sides : AllFit net calls → (output : Bool) (v : ℕ) → length (atModule (moduleOf calls output) (rowCount calls) v) ≤ length (order net)
     sides h true v = rows-modules (β calls) (order net) (rowCount calls) (λ i l. h i l .1) v
     sides h false v = rows-modules (α calls) (order net) (rowCount calls) (λ i l. h i l .0) v
 
@@ -88,8 +79,8 @@ some-overfull net calls n =
     let w = some-row 7 (rowCount calls) (overfull net calls) n in
     ⊎-elim
     (λ h. (false, α calls (w .0), over (α calls) (w .0) (w .1) h))
-    (λ h. (true, β calls (w .0), over (β calls) (w .0) (w .1) h))
-    (either-is (ltb (length (order net)) (length (atModule (α calls) (suc (w .0)) (α calls (w .0))))) _ .0 (w .2))
+    (λ rest. ⊎-elim (λ h. (true, β calls (w .0), over (β calls) (w .0) (w .1) h)) (λ h. absurd h) rest)
+    (any-is _ .0 (w .2))
   where
     over : (f : ℕ → ℕ) (i : ℕ) → i < rowCount calls → T (ltb (length (order net)) (length (atModule f (suc i) (f i)))) → length (order net) < length (atModule f (rowCount calls) (f i))
     over f i l h = omega (arith, ltb→lt (length (order net)) (length (atModule f (suc i) (f i))) h, count-grows f (order net) (f i) (suc i) (rowCount calls) l)

@@ -1,55 +1,192 @@
 -- Placing all calls, one after the other: what the loop rests on and keeps.
+--   SoFar net calls k rows used chain moved == the calls of the rows below k are placed, and the record is theirs
+--   entered, part rows calls k == the rows with the modules of call k in its row, and those up to that row
+--   none-so-far         == the loop's start
 --   placeable           == the next call can be placed
---   next-centrals, next-moved == one placement more is one row more of the plan
+--   next-so-far         == and then one call more is placed
 --   moved-small         == the moved count stays far below what its number can hold
-use mathlib.Core.Path.{_≡_, _∙_}
-use mathlib.Core.List.{List}
-use Prim.Native.Nat.{ℕ, _+_, _*_, _-_, _≤_, _<_}
+--   all-so-far          == the loop's end
+--   entered-length      == the rows keep their length
+use mathlib.Core.Path.{_≡_, refl, sym, ap, _∙_}
+use mathlib.Core.Bool.{Bool, true, false}
+use mathlib.Core.List.{List, _++_}
+use Prim.Native.Nat.{ℕ, suc, _+_, _*_, _-_, _≤_, _<_}
 use native.Mathlib.Nat.{le-trans, mul-le-mul}
 use native.Mathlib.Numerals.{add-one}
 use native.Mathlib.Omega.{arith}
+use lib.ListN.{length, getD, set, take, drop, length-set, length-append, length-drop, List·getD-append}
+use lib.Seq.{getD-set-same, getD-set-other, getD-take, length-take-le, take-all}
+use Rattle.ground.specs.Numbers.{up-to}
 use Rattle.shelf.specs.declared.Network.{Network}
 use Rattle.shelf.specs.Network.{mostModules, mostCalls}
 use Rattle.shelf.specs.NetworkLaws.{limits-are}
-use Rattle.shelf.specs.Rows.{rowCount, α, β}
-use Rattle.choice.specs.Rule.{planFrom}
+use Rattle.shelf.specs.Rows.{rowCount, α, β, moduleOf, ModulesBelow}
+use Rattle.shelf.specs.Order.{order}
+use Rattle.shelf.specs.OrderLaws.{order-distinct}
+use Rattle.choice.specs.Rule.{at, step, Step, plan, movedBy}
+use Rattle.choice.specs.Colouring.{atModule, Fits}
+use Rattle.choice.specs.Rows.{moduleIn, centralsOf}
+use Rattle.choice.specs.Record.{Recorded}
+use Rattle.choice.specs.Placement.{chainPlaces, earlier, stepIn, Placeable, Placed}
 use Rattle.choice.specs.Count.{count-here}
-use Rattle.choice.specs.PlanLaws.{plan-from-length, plan-from-fine, plan-from-moved}
-use Rattle.choice.specs.Order.{order, order-distinct}
-use Rattle.choice.specs.Record.{Recorded, Placeable, Placed}
-use Rattle.planner.specs.Steps.{Ready}
+use Rattle.choice.specs.PlanLaws.{moved-more, plan-fine, plan-moved}
+use Rattle.choice.specs.RecordLaws.{recorded-same}
+use Rattle.choice.specs.RowsLaws.{centrals-length, front-centrals}
+use Rattle.choice.specs.Agree.{Agree, count-agree, fine-agree, recorded-agree, step-agree}
+use Rattle.choice.specs.Mending.{telling-length}
+use Rattle.planner.specs.Planner.{chosen, plannedMoved}
+use Rattle.planner.specs.Steps.{Ready, AllPlaced}
 
-module _ (net : Network) (calls start : List ℕ) (h : Ready net calls start) (k : ℕ) (l : k < rowCount calls)
-    (centrals used : List ℕ) (e : centrals ≡ planFrom (α calls) (β calls) (order net) start k .centrals) (recorded : Recorded calls centrals k used) where
-  -- the next call can be placed
-  pub placeable : Placeable net calls centrals used k
-  placeable = record {
-    limits = h .table .limits;
-    row = rw e (omega (arith, plan-from-length (α calls) (β calls) (order net) start k, h .places));
-    rows = omega (arith, h .table .whole);
-    modules = λ i q. let w = h .table .inside i (omega arith) in (w .own-α, w .own-β);
-    fine = rw e (plan-from-fine (α calls) (β calls) (order net) start (order-distinct net) k (omega (arith, h .places)) (λ i q. h .fits i (omega arith)));
-    recorded = recorded;
-    room-α = omega (arith, count-here (α calls) k, h .fits k l .0);
-    room-β = omega (arith, count-here (β calls) k, h .fits k l .1);
+pub record SoFar (net : Network) (calls : List ℕ) (k : ℕ) (rows used chain : List ℕ) (moved : ℕ) : Type 0 where
+  pub below : k ≤ rowCount calls
+  pub whole : length rows ≡ 3 * rowCount calls
+  pub modules : (output : Bool) → Agree (moduleIn rows output) (moduleOf calls output) k
+  pub centrals : take k (centralsOf rows) ≡ plan (α calls) (β calls) (order net) k .centrals
+  pub recorded : Recorded (moduleOf calls) (at (plan (α calls) (β calls) (order net) k .centrals)) k used
+  pub places : length chain ≡ chainPlaces
+  pub moved-is : moved ≡ movedBy (plan (α calls) (β calls) (order net) k .chains)
+
+abbrev pub entered : (rows calls : List ℕ) → ℕ → List ℕ
+entered rows calls k = set (set rows (3 * k) (α calls k)) (3 * k + 2) (β calls k)
+
+abbrev pub part : (rows calls : List ℕ) → ℕ → List ℕ
+part rows calls k = take (3 * k + 3) (entered rows calls k)
+
+-- the modules of the call are in its row, and nothing else has changed
+module _ (rows calls : List ℕ) (k : ℕ) (l : 3 * k + 3 ≤ length rows) where
+  pub entered-length : length (entered rows calls k) ≡ length rows
+  entered-length = length-set (set rows (3 * k) (α calls k)) (3 * k + 2) (β calls k) ∙ length-set rows (3 * k) (α calls k)
+
+  entered-module : (output : Bool) → Agree (moduleIn rows output) (moduleOf calls output) k → Agree (moduleIn (entered rows calls k) output) (moduleOf calls output) (suc k)
+  unfolding moduleIn
+  entered-module true same = up-to (λ i. getD (entered rows calls k) (3 * i + 2) 0 ≡ β calls i)
+      (λ i m.
+      getD-set-other (set rows (3 * k) (α calls k)) (3 * k + 2) (3 * i + 2) (β calls k) 0 (λ e. omega arith)
+      ∙ getD-set-other rows (3 * k) (3 * i + 2) (α calls k) 0 (λ e. omega arith)
+      ∙ same i m)
+      (getD-set-same (set rows (3 * k) (α calls k)) (3 * k + 2) (β calls k) 0 (rw (length-set rows (3 * k) (α calls k)) (omega arith)))
+  entered-module false same = up-to (λ i. getD (entered rows calls k) (3 * i) 0 ≡ α calls i)
+      (λ i m.
+      getD-set-other (set rows (3 * k) (α calls k)) (3 * k + 2) (3 * i) (β calls k) 0 (λ e. omega arith)
+      ∙ getD-set-other rows (3 * k) (3 * i) (α calls k) 0 (λ e. omega arith)
+      ∙ same i m)
+      (getD-set-other (set rows (3 * k) (α calls k)) (3 * k + 2) (3 * k) (β calls k) 0 (λ e. omega arith) ∙ getD-set-same rows (3 * k) (α calls k) 0 (omega arith))
+
+  entered-central : (i : ℕ) → getD (entered rows calls k) (3 * i + 1) 0 ≡ getD rows (3 * i + 1) 0
+  entered-central i =
+      getD-set-other (set rows (3 * k) (α calls k)) (3 * k + 2) (3 * i + 1) (β calls k) 0 (λ e. omega arith)
+      ∙ getD-set-other rows (3 * k) (3 * i + 1) (α calls k) 0 (λ e. omega arith)
+
+  part-length : length (part rows calls k) ≡ 3 * suc k
+  part-length = length-take-le (3 * k + 3) (entered rows calls k) (rw entered-length l) ∙ omega arith
+
+  part-module : (output : Bool) → Agree (moduleIn rows output) (moduleOf calls output) k → Agree (moduleIn (part rows calls k) output) (moduleOf calls output) (suc k)
+  unfolding moduleIn
+  part-module true same i m = getD-take (3 * k + 3) (entered rows calls k) (3 * i + 2) 0 (omega arith) ∙ entered-module true same i m
+  part-module false same i m = getD-take (3 * k + 3) (entered rows calls k) (3 * i) 0 (omega arith) ∙ entered-module false same i m
+
+  part-centrals : earlier (part rows calls k) k ≡ take k (centralsOf rows)
+  part-centrals = front-centrals (part rows calls k) rows k (omega (arith, part-length)) (omega arith)
+      (λ i m. getD-take (3 * k + 3) (entered rows calls k) (3 * i + 1) 0 (omega arith) ∙ entered-central i)
+
+module _ {net : Network} {calls start : List ℕ} (h : Ready net calls start) where
+  own : (k : ℕ) → k ≤ rowCount calls → ModulesBelow (α calls) (β calls) (net .r) k
+  own k l i m = let w = h .table .inside i (omega arith) in (w .own-α, w .own-β)
+
+  pub none-so-far : {used chain : List ℕ} → Recorded (moduleIn start) (at (centralsOf start)) 0 used → length chain ≡ chainPlaces → SoFar net calls 0 start used chain 0
+  unfolding plan movedBy
+  none-so-far r p = record {
+    below = omega arith;
+    whole = h .whole;
+    modules = λ output i l. absurd (omega arith);
+    centrals = refl;
+    recorded = recorded-same (moduleOf calls) _ 0 _ (recorded-agree (λ output i l. absurd (omega arith)) r) _ (λ i l. absurd (omega arith));
+    places = p;
+    moved-is = refl;
   }
 
-  -- and then one more is placed
-  module _ (moved more : ℕ) (centrals′ used′ : List ℕ) (m : moved ≡ planFrom (α calls) (β calls) (order net) start k .moved) (p : Placed net calls centrals centrals′ used′ k more) where
-    pub next-centrals : centrals′ ≡ planFrom (α calls) (β calls) (order net) start (k + 1) .centrals
-    unfolding planFrom
-    next-centrals = p .by-the-rule ∙ rw (add-one k, e)
+  -- the end
+  pub all-so-far : {k moved : ℕ} {rows used chain : List ℕ} → SoFar net calls k rows used chain moved → k ≡ rowCount calls → AllPlaced net calls start rows moved
+  unfolding chosen plannedMoved
+  all-so-far {rows = rows} s e = record {
+    size = s .whole ∙ sym (h .whole);
+    modules = rw e at (s .modules);
+    centrals = sym (take-all (rowCount calls) (centralsOf rows) (omega (arith, centrals-length rows (rowCount calls) (s .whole)))) ∙ (rw e at (s .centrals));
+    moved-is = rw e at (s .moved-is);
+  }
 
-    pub next-moved : moved + more ≡ planFrom (α calls) (β calls) (order net) start (k + 1) .moved
-    unfolding planFrom
-    next-moved = rw (add-one k, m, p .moved-is, e)
+  module _ {k moved : ℕ} {rows used chain : List ℕ} (s : SoFar net calls k rows used chain moved) (l : k < rowCount calls) where
+    room : 3 * k + 3 ≤ length rows
+    room = omega (arith, s .whole)
 
-    -- the count of moved calls stays small: for each of the calls, a chain of at most 2 * r - 2
-    pub moved-small : moved + more ≤ mostCalls * (2 * mostModules - 2)
-    moved-small =
-        let few : planFrom (α calls) (β calls) (order net) start (k + 1) .moved ≤ (k + 1) * (2 * net .r - 2) =
-        plan-from-moved (α calls) (β calls) (order net) start (order-distinct net) (k + 1) (omega (arith, h .places)) (λ i q. h .fits i (omega arith)) (net .r)
-        (λ i q. let w = h .table .inside i (omega arith) in (w .own-α, w .own-β)) in
-        let rows : k + 1 ≤ mostCalls = omega (arith, h .table .few) in
-        let modules : 2 * net .r - 2 ≤ 2 * mostModules - 2 = omega (arith, limits-are net .0 (h .table .limits) .most-r) in
-        rw next-moved (le-trans few (mul-le-mul {n₁ = k + 1} {m₁ = 2 * net .r - 2} rows modules))
+    abbrev rows′ : List ℕ
+    rows′ = part rows calls k
+
+    agree : (output : Bool) → Agree (moduleIn rows′ output) (moduleOf calls output) (suc k)
+    agree output = part-module rows calls k room output (s .modules output)
+
+    agree-below : (output : Bool) → Agree (moduleOf calls output) (moduleIn rows′ output) k
+    agree-below output i m = sym (agree output i (omega arith))
+
+    earlier-is : earlier rows′ k ≡ plan (α calls) (β calls) (order net) k .centrals
+    earlier-is = part-centrals rows calls k room ∙ s .centrals
+
+    fits-below : (i : ℕ) → i < k → Fits (α calls) (order net) i × Fits (β calls) (order net) i
+    fits-below i m = h .fits i (omega arith)
+
+    pub placeable : Placeable net rows′ k used chain
+    placeable = record {
+      limits = h .table .limits;
+      whole = part-length rows calls k room;
+      small = omega (arith, h .table .few);
+      modules = λ i m. let w = own (suc k) l i m in (rw (agree false i m) (w .0), rw (agree true i m) (w .1));
+      fine = rw earlier-is (fine-agree (agree-below false) (agree-below true) (plan-fine (α calls) (β calls) (order net) (order-distinct net) k fits-below));
+      recorded = rw earlier-is (recorded-agree agree-below (s .recorded));
+      places = s .places;
+      room = λ output. rw (agree output k (omega arith), ← count-agree k (moduleOf calls output k) (agree-below output)) (fits output);
+    }
+      where
+        fits : (output : Bool) → length (atModule (moduleOf calls output) k (moduleOf calls output k)) < length (order net)
+        fits true = omega (arith, count-here (β calls) k, h .fits k l .1)
+        fits false = omega (arith, count-here (α calls) k, h .fits k l .0)
+
+    step-is : stepIn net rows′ k ≡ step (α calls) (β calls) (order net) (plan (α calls) (β calls) (order net) k .centrals) k
+    step-is = step-agree (order net) (earlier rows′ k) (agree false) (agree true) ∙ ap (λ (cs : List ℕ). step (α calls) (β calls) (order net) cs k) earlier-is
+
+    module _ {rows″ used′ chain′ : List ℕ} {more : ℕ} (p : Placed net rows′ rows″ k used′ chain chain′ more) where
+      abbrev after : List ℕ
+      after = rows″ ++ drop (3 * k + 3) (entered rows calls k)
+
+      long : length rows″ ≡ 3 * suc k
+      long = p .by-the-rule .size ∙ part-length rows calls k room
+
+      after-front : (j : ℕ) → j < 3 * suc k → getD after j 0 ≡ getD rows″ j 0
+      after-front j m = List·getD-append rows″ (drop (3 * k + 3) (entered rows calls k)) 0 j (omega (arith, long))
+
+      pub next-so-far : SoFar net calls (k + 1) after used′ chain′ (moved + more)
+      unfolding plan moduleIn
+      next-so-far = rw (add-one k) (record {
+        below = l;
+        whole = length-append rows″ (drop (3 * k + 3) (entered rows calls k)) ∙ omega (arith, long, length-drop (3 * k + 3) (entered rows calls k), entered-length rows calls k room, s .whole);
+        modules = module-after;
+        centrals =
+            front-centrals after rows″ (suc k) (omega (arith, length-append rows″ (drop (3 * k + 3) (entered rows calls k)), long)) (omega (arith, long)) (λ i m. after-front (3 * i + 1) (omega arith))
+            ∙ take-all (suc k) (centralsOf rows″) (omega (arith, centrals-length rows″ (suc k) long))
+            ∙ p .by-the-rule .centrals
+            ∙ ap (λ (t : Step). t .centrals) step-is;
+        recorded = rw step-is at (recorded-agree agree (p .recorded));
+        places = ap length (p .told) ∙ telling-length chain _ _ ∙ s .places;
+        moved-is = rw (moved-more (plan (α calls) (β calls) (order net) k .chains), s .moved-is, p .moved-is, step-is);
+      })
+        where
+          module-after : (output : Bool) → Agree (moduleIn after output) (moduleOf calls output) (suc k)
+          module-after true i m = after-front (3 * i + 2) (omega arith) ∙ p .by-the-rule .modules true i ∙ agree true i m
+          module-after false i m = after-front (3 * i) (omega arith) ∙ p .by-the-rule .modules false i ∙ agree false i m
+
+      -- the count of moved calls stays small: for each of the calls, a chain of at most 2 * r - 2
+      pub moved-small : moved + more ≤ mostCalls * (2 * mostModules - 2)
+      moved-small =
+          let few = plan-moved (α calls) (β calls) (order net) (order-distinct net) (k + 1) (λ i m. h .fits i (omega arith)) (net .r) (own (k + 1) (omega arith)) in
+          let rows-few : k + 1 ≤ mostCalls = omega (arith, h .table .few) in
+          let modules-few : 2 * net .r - 2 ≤ 2 * mostModules - 2 = omega (arith, limits-are net .0 (h .table .limits) .most-r) in
+          rw (next-so-far .moved-is) (le-trans few (mul-le-mul {n₁ = k + 1} {m₁ = 2 * net .r - 2} rows-few modules-few))

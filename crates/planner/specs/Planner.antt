@@ -1,46 +1,51 @@
 -- What the planner answers and writes, as functions of its input.
---   settingsRow W calls γ i     == the three bytes of settings row i: the central γ i, and the wavelengths by the grating rule
---   settingsRows W calls γ k    == the settings of the rows below k, with gratings of cycle W
+--   settingsRow W α β γ i       == the three bytes of settings row i: the central γ i, and the wavelengths by the grating rule
+--   settingsRows W α β γ k      == the settings of the rows below k, with gratings of cycle W
 --   overfull net calls i        == with row i, its input module or its output module has more calls than there are centrals
 --   roomRefused calls room      == 4, output buffer too short
 --   overfullRow net calls       == 8, sought over the whole table
---   plannerVerdict net calls room == number and row
---   chosen net calls            == the centrals and the moved count, by the choice rule
+--   plannerChecks, plannerVerdict net calls room == the checks in their order; number and row
+--   chosen net calls            == the centrals and the chains, by the choice rule
+--   plannedSettings, plannedMoved net calls == the settings, and how many calls were moved
 --   planAnswer, planBuffer      == the answer, and the output buffer afterwards
 --   NoneOverfull, SomeOverfull  == no module, or some module, has more calls than there are centrals
 --   Plans net calls before after a == what the entry guarantees
 use mathlib.Core.Path.{_≡_}
 use mathlib.Core.Logic.{_↔_}
-use mathlib.Core.Bool.{Bool, cond, _||_}
+use mathlib.Core.Bool.{Bool, cond}
 use mathlib.Core.List.{List, [], _∷_, _++_}
 use Prim.Native.Nat.{ℕ, zero, suc, _*_, _≤_, _<_}
 use lib.Dec.{eqb, ltb}
 use lib.ListN.{length, take, drop}
+use Rattle.ground.specs.Truth.{any}
 use Rattle.grating.specs.Grating.{wavelengthBetween}
 use Rattle.shelf.specs.declared.Network.{Network}
 use Rattle.shelf.specs.Network.{cycle}
 use Rattle.shelf.specs.Rows.{rowCount, α, β, moduleOf}
 use Rattle.shelf.specs.Light.{Lawful}
+use Rattle.shelf.specs.Order.{order}
 use Rattle.calls.specs.declared.Verdict.{Verdict}
-use Rattle.calls.specs.Verdict.{success, refusedIf, _⨾_, seekRows}
+use Rattle.calls.specs.Verdict.{refusedIf, answer, seekRows}
 use Rattle.calls.specs.Table.{sizeChecks, callChecks, InOrder}
-use Rattle.choice.specs.Rule.{at, Plan, plan}
-use Rattle.choice.specs.Count.{atModule}
-use Rattle.choice.specs.Order.{order}
+use Rattle.choice.specs.Rule.{at, Plan, plan, movedBy}
+use Rattle.choice.specs.Colouring.{atModule}
 use Rattle.planner.specs.declared.Planned.{Planned}
 
 -- "a call through γ needs x = [α + γ] and y = [γ + β]"
-abbrev pub settingsRow : ℕ → List ℕ → (ℕ → ℕ) → ℕ → List ℕ
-settingsRow W calls γ i = wavelengthBetween W (α calls i) (γ i) ∷ γ i ∷ wavelengthBetween W (γ i) (β calls i) ∷ []
+abbrev pub settingsRow : (W : ℕ) (α β γ : ℕ → ℕ) → ℕ → List ℕ
+settingsRow W α β γ i = wavelengthBetween W (α i) (γ i) ∷ γ i ∷ wavelengthBetween W (γ i) (β i) ∷ []
 
-unfoldable pub settingsRows : ℕ → List ℕ → (ℕ → ℕ) → ℕ → List ℕ
-settingsRows W calls γ zero = []
-settingsRows W calls γ (suc k) = settingsRows W calls γ k ++ settingsRow W calls γ k
+unfoldable pub settingsRows : (W : ℕ) (α β γ : ℕ → ℕ) → ℕ → List ℕ
+settingsRows W α β γ zero = []
+settingsRows W α β γ (suc k) = settingsRows W α β γ k ++ settingsRow W α β γ k
 
 -- 8: "with this row, α or β has m+1 calls"
 unfoldable pub overfull : Network → List ℕ → ℕ → Bool
-overfull net calls i =
-    ltb (length (order net)) (length (atModule (α calls) (suc i) (α calls i))) || ltb (length (order net)) (length (atModule (β calls) (suc i) (β calls i)))
+overfull net calls i = any (
+    ltb (length (order net)) (length (atModule (α calls) (suc i) (α calls i)))
+    ∷ ltb (length (order net)) (length (atModule (β calls) (suc i) (β calls i)))
+    ∷ []
+    )
 
 unfoldable pub overfullRow : Network → List ℕ → Verdict
 overfullRow net calls = seekRows (rowCount calls) (λ i. refusedIf 8 i (overfull net calls i))
@@ -50,25 +55,33 @@ unfoldable pub roomRefused : List ℕ → ℕ → Verdict
 roomRefused calls room = refusedIf 4 0 (ltb room (3 * rowCount calls))
 
 -- "Planner: 1, 2, 3, 4, 5, 6, 7, 8." No settings are given.
+unfoldable pub plannerChecks : Network → List ℕ → ℕ → List Verdict
+plannerChecks net calls room = sizeChecks net (length calls) 0 0 ∷ roomRefused calls room ∷ callChecks net calls ∷ overfullRow net calls ∷ []
+
 unfoldable pub plannerVerdict : Network → List ℕ → ℕ → Verdict
-plannerVerdict net calls room =
-    sizeChecks net (length calls) 0 0 ⨾ roomRefused calls room ⨾ callChecks net calls ⨾ overfullRow net calls ⨾ success (rowCount calls)
+plannerVerdict net calls room = answer (plannerChecks net calls room) (rowCount calls)
 
 -- "The planner's settings are these and no others."
 unfoldable pub chosen : Network → List ℕ → Plan
 chosen net calls = plan (α calls) (β calls) (order net) (rowCount calls)
+
+unfoldable pub plannedSettings : Network → List ℕ → List ℕ
+plannedSettings net calls = settingsRows (cycle net) (α calls) (β calls) (at (chosen net calls .centrals)) (rowCount calls)
+
+unfoldable pub plannedMoved : Network → List ℕ → ℕ
+plannedMoved net calls = movedBy (chosen net calls .chains)
 
 -- "All refusals have moved 0 and write nothing anywhere. Success writes the first 3K bytes (planner) ..; bytes beyond keep
 -- their values."
 unfoldable pub planAnswer : Network → List ℕ → ℕ → Planned
 planAnswer net calls room =
     let v = plannerVerdict net calls room in
-    record { number = v .number; row = v .row; moved = cond (eqb (v .number) 0) (chosen net calls .moved) 0 }
+    record { number = v .number; row = v .row; moved = cond (eqb (v .number) 0) (plannedMoved net calls) 0 }
 
 unfoldable pub planBuffer : Network → List ℕ → List ℕ → List ℕ
 planBuffer net calls before =
     cond (eqb (plannerVerdict net calls (length before) .number) 0)
-    (settingsRows (cycle net) calls (at (chosen net calls .centrals)) (rowCount calls) ++ drop (3 * rowCount calls) before)
+    (plannedSettings net calls ++ drop (3 * rowCount calls) before)
     before
 
 abbrev pub NoneOverfull : Network → List ℕ → Type 0

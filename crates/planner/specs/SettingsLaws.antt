@@ -1,120 +1,180 @@
 -- The settings rows that the planner writes, read back, and that they are lawful where no module uses a central twice.
---   settings-length, kept-length, settings-next == the rows written so far, one more of them, and the bytes beyond
+--   settings-length, planned-length == they have three bytes for each row
 --   settings-x, settings-γ, settings-y == a row read back
+--   written-byte, passable-now, written-length, written-next, written-all == the rows written so far, one more of them, and what stands behind
+--   settings-agree      == only the rows that are written matter
 --   settings-lawful     == they are lawful where the centrals are a fine colouring
 --   lawful-fine         == the centrals of lawful settings are a fine colouring
 use mathlib.Core.Path.{_≡_, refl, sym, ap, _∙_}
-use mathlib.Core.Logic.{_⊎_, inl, inr, ⊎-elim}
-use mathlib.Core.List.{List, [], _∷_, _++_, append-assoc}
-use Prim.Native.Nat.{ℕ, zero, suc, _+_, _*_, _≤_, _<_}
+use mathlib.Core.Logic.{_⊎_, inl, inr}
+use mathlib.Core.Bool.{true, false}
+use mathlib.Core.List.{List, [], _∷_, _++_, append-assoc, append-nil}
+use Prim.Native.Nat.{ℕ, zero, suc, _+_, _*_, _/_, _≤_, _<_}
 use native.Mathlib.Omega.{arith}
 use native.Mathlib.Numerals.{add-one}
-use lib.ListN.{length, getD, set, drop, length-append, length-drop, List·getD-append}
-use lib.Seq.{getD-append-add, drop-cons, set-at}
+use lib.Dec.{T}
+use lib.ListN.{length, getD, set, drop, length-append, length-drop, drop-of-length-le, List·getD-append}
+use lib.Seq.{getD-append-add, getD-drop, drop-cons, set-at}
+use Rattle.ground.specs.Below.{Once}
+use Rattle.ground.specs.Numbers.{below-suc}
 use Rattle.grating.specs.Grating.{wavelengthBetween}
-use Rattle.grating.specs.Laws.{lt-or-le}
 use Rattle.shelf.specs.declared.Network.{Network}
-use Rattle.shelf.specs.Network.{cycle}
-use Rattle.shelf.specs.Rows.{rowCount, α, β, x, γ, y}
-use Rattle.shelf.specs.Every.{below-suc}
+use Rattle.shelf.specs.Network.{withinLimits, cycle}
+use Rattle.shelf.specs.Rows.{ModulesBelow, rowCount, α, β, x, γ, y}
 use Rattle.shelf.specs.Light.{rowAt, Lawful}
-use Rattle.shelf.specs.LawfulLaws.{OwnModules, lawful-plain}
-use Rattle.choice.specs.StepLaws.{Fine}
-use Rattle.choice.specs.Order.{order, order-own}
-use Rattle.planner.specs.Planner.{settingsRow, settingsRows}
+use Rattle.shelf.specs.LawfulLaws.{lawful-plain}
+use Rattle.shelf.specs.Order.{order}
+use Rattle.shelf.specs.OrderLaws.{order-own}
+use Rattle.choice.specs.Rule.{at}
+use Rattle.choice.specs.Colouring.{Fine}
+use Rattle.choice.specs.Rows.{moduleIn, centralsOf}
+use Rattle.choice.specs.RowsLaws.{central-at}
+use Rattle.choice.specs.Agree.{Agree}
+use Rattle.planner.specs.Planner.{settingsRow, settingsRows, chosen, plannedSettings}
+use Rattle.planner.specs.Steps.{Passable}
 
--- a store right behind the written part p
-push : (p o : List ℕ) (n v : ℕ) → length p ≡ n → n < length o → set (p ++ drop n o) n v ≡ (p ++ (v ∷ [])) ++ drop (n + 1) o
-push p o n v e h =
-    ap (λ (l : List ℕ). set (p ++ l) n v) (drop-cons o n 0 h)
-    ∙ set-at p (getD o n 0) (drop (suc n) o) v n e
-    ∙ ap (λ (j : ℕ). p ++ (v ∷ drop j o)) (sym (add-one n))
-    ∙ sym (append-assoc p (v ∷ []) (drop (n + 1) o))
-
--- three stores are a row
-push-row : (p o : List ℕ) (n a b c : ℕ) → length p ≡ n → n + 3 ≤ length o → set (set (set (p ++ drop n o) n a) (n + 1) b) (n + 2) c ≡ (p ++ (a ∷ b ∷ c ∷ [])) ++ drop (n + 3) o
-push-row p o n a b c e h =
-    let one : length (p ++ (a ∷ [])) ≡ n + 1 = length-append p (a ∷ []) ∙ omega arith in
-    let two : length ((p ++ (a ∷ [])) ++ (b ∷ [])) ≡ n + 2 = length-append (p ++ (a ∷ [])) (b ∷ []) ∙ omega arith in
-    let e₂ : n + 1 + 1 ≡ n + 2 = omega arith in
-    let e₃ : n + 2 + 1 ≡ n + 3 = omega arith in
-    ap (λ (l : List ℕ). set (set l (n + 1) b) (n + 2) c) (push p o n a e (omega arith))
-    ∙ ap (λ (l : List ℕ). set l (n + 2) c) (push (p ++ (a ∷ [])) o (n + 1) b one (omega arith) ∙ ap (λ (j : ℕ). ((p ++ (a ∷ [])) ++ (b ∷ [])) ++ drop j o) e₂)
-    ∙ push ((p ++ (a ∷ [])) ++ (b ∷ [])) o (n + 2) c two (omega arith)
-    ∙ rw (e₃, append-assoc p (a ∷ []) (b ∷ []), append-assoc p (a ∷ b ∷ []) (c ∷ []))
-
-module _ (W : ℕ) (calls : List ℕ) (g : ℕ → ℕ) where
-  pub settings-length : (k : ℕ) → length (settingsRows W calls g k) ≡ 3 * k
+module _ (W : ℕ) (α β g : ℕ → ℕ) where
+  pub settings-length : (k : ℕ) → length (settingsRows W α β g k) ≡ 3 * k
   unfolding settingsRows
   settings-length zero = refl
-  settings-length (suc k) = length-append (settingsRows W calls g k) (settingsRow W calls g k) ∙ omega (arith, settings-length k)
-
-  -- the buffer keeps its length
-  pub kept-length : (k : ℕ) (before now : List ℕ) → now ≡ settingsRows W calls g k ++ drop (3 * k) before → 3 * k ≤ length before → length now ≡ length before
-  kept-length k before now e room = ap length e ∙ length-append (settingsRows W calls g k) (drop (3 * k) before) ∙ omega (arith, settings-length k, length-drop (3 * k) before)
-
-  -- one row more is stored behind those that are written
-  pub settings-next : (k : ℕ) (before now : List ℕ) (to c from : ℕ) → now ≡ settingsRows W calls g k ++ drop (3 * k) before → 3 * k + 3 ≤ length before
-      → to ≡ wavelengthBetween W (α calls k) (g k) → c ≡ g k → from ≡ wavelengthBetween W (g k) (β calls k)
-      → set (set (set now (3 * k) to) (3 * k + 1) c) (3 * k + 2) from ≡ settingsRows W calls g (k + 1) ++ drop (3 * (k + 1)) before
-  unfolding settingsRows
-  settings-next k before now to c from e room et ec ef =
-      let n : 3 * k + 3 ≡ 3 * (k + 1) = omega arith in
-      rw (e, push-row (settingsRows W calls g k) before (3 * k) to c from (settings-length k) room, n, add-one k, et, ec, ef)
+  settings-length (suc k) = length-append (settingsRows W α β g k) (settingsRow W α β g k) ∙ omega (arith, settings-length k)
 
   -- byte j of row i
-  settings-byte : (k i j : ℕ) → i < k → j < 3 → getD (settingsRows W calls g k) (3 * i + j) 0 ≡ getD (settingsRow W calls g i) j 0
+  settings-byte : (k i j : ℕ) → i < k → j < 3 → getD (settingsRows W α β g k) (3 * i + j) 0 ≡ getD (settingsRow W α β g i) j 0
   unfolding settingsRows
   settings-byte zero i j l m = absurd (omega arith)
   settings-byte (suc k) i j l m = go (λ q. settings-byte k i j q m) (below-suc l)
     where
-      go : (i < k → getD (settingsRows W calls g k) (3 * i + j) 0 ≡ getD (settingsRow W calls g i) j 0) → (i ≡ k) ⊎ (i < k)
-          → getD (settingsRows W calls g k ++ settingsRow W calls g k) (3 * i + j) 0 ≡ getD (settingsRow W calls g i) j 0
+      go : (i < k → getD (settingsRows W α β g k) (3 * i + j) 0 ≡ getD (settingsRow W α β g i) j 0) → (i ≡ k) ⊎ (i < k)
+          → getD (settingsRows W α β g k ++ settingsRow W α β g k) (3 * i + j) 0 ≡ getD (settingsRow W α β g i) j 0
       go deep (inl e) =
-          let at-end : 3 * i + j ≡ length (settingsRows W calls g k) + j = omega (arith, settings-length k) in
-          ap (λ (t : ℕ). getD (settingsRows W calls g k ++ settingsRow W calls g k) t 0) at-end
-          ∙ getD-append-add (settingsRows W calls g k) (settingsRow W calls g k) j 0
-          ∙ ap (λ (t : ℕ). getD (settingsRow W calls g t) j 0) (sym e)
-      go deep (inr q) = List·getD-append (settingsRows W calls g k) (settingsRow W calls g k) 0 (3 * i + j) (omega (arith, settings-length k)) ∙ deep q
+          let at-end : 3 * i + j ≡ length (settingsRows W α β g k) + j = omega (arith, settings-length k) in
+          ap (λ (t : ℕ). getD (settingsRows W α β g k ++ settingsRow W α β g k) t 0) at-end
+          ∙ getD-append-add (settingsRows W α β g k) (settingsRow W α β g k) j 0
+          ∙ ap (λ (t : ℕ). getD (settingsRow W α β g t) j 0) (sym e)
+      go deep (inr q) = List·getD-append (settingsRows W α β g k) (settingsRow W α β g k) 0 (3 * i + j) (omega (arith, settings-length k)) ∙ deep q
 
   module _ (k i : ℕ) (l : i < k) where
-    pub settings-x : x (settingsRows W calls g k) i ≡ wavelengthBetween W (α calls i) (g i)
+    pub settings-x : x (settingsRows W α β g k) i ≡ wavelengthBetween W (α i) (g i)
     unfolding x
     settings-x = let e : 3 * i ≡ 3 * i + 0 = omega arith in rw e (settings-byte k i 0 l (omega arith))
 
-    pub settings-γ : γ (settingsRows W calls g k) i ≡ g i
+    pub settings-γ : γ (settingsRows W α β g k) i ≡ g i
     unfolding γ
     settings-γ = settings-byte k i 1 l (omega arith)
 
-    pub settings-y : y (settingsRows W calls g k) i ≡ wavelengthBetween W (g i) (β calls i)
+    pub settings-y : y (settingsRows W α β g k) i ≡ wavelengthBetween W (g i) (β i)
     unfolding y
     settings-y = settings-byte k i 2 l (omega arith)
 
+-- ---- a row of modules becomes a row of settings, where it stands
+
+-- the first and the third number behind a front are stored
+store-row : (p r : List ℕ) (a g b x y n : ℕ) → length p ≡ n → set (set (p ++ a ∷ g ∷ b ∷ r) n x) (n + 2) y ≡ (p ++ (x ∷ g ∷ y ∷ [])) ++ r
+store-row p r a g b x y n e =
+    let two : length (p ++ (x ∷ g ∷ [])) ≡ n + 2 = length-append p (x ∷ g ∷ []) ∙ omega arith in
+    ap (λ (l : List ℕ). set l (n + 2) y) (set-at p a (g ∷ b ∷ r) x n e ∙ sym (append-assoc p (x ∷ g ∷ []) (b ∷ r)))
+    ∙ set-at (p ++ (x ∷ g ∷ [])) b r y (n + 2) two
+    ∙ append-assoc p (x ∷ g ∷ []) (y ∷ r)
+    ∙ sym (append-assoc p (x ∷ g ∷ y ∷ []) r)
+
+-- what stands behind the rows that are written is as it was
+module _ (W : ℕ) (rows : List ℕ) where
+  abbrev α₀ : ℕ → ℕ
+  α₀ = moduleIn rows false
+
+  abbrev β₀ : ℕ → ℕ
+  β₀ = moduleIn rows true
+
+  abbrev γ₀ : ℕ → ℕ
+  γ₀ = at (centralsOf rows)
+
+  three : (k : ℕ) → 3 * k + 3 ≤ length rows → drop (3 * k) rows ≡ α₀ k ∷ γ₀ k ∷ β₀ k ∷ drop (3 * (k + 1)) rows
+  unfolding moduleIn
+  three k l =
+      let e₁ : suc (3 * k) ≡ 3 * k + 1 = omega arith in
+      let e₂ : suc (3 * k + 1) ≡ 3 * k + 2 = omega arith in
+      let e₃ : suc (3 * k + 2) ≡ 3 * (k + 1) = omega arith in
+      drop-cons rows (3 * k) 0 (omega arith)
+      ∙ rw (e₁, drop-cons rows (3 * k + 1) 0 (omega arith), e₂, drop-cons rows (3 * k + 2) 0 (omega arith), e₃, central-at rows k l)
+
+  pub written-byte : (k j : ℕ) (now : List ℕ) → now ≡ settingsRows W α₀ β₀ γ₀ k ++ drop (3 * k) rows → getD now (3 * k + j) 0 ≡ getD rows (3 * k + j) 0
+  written-byte k j now e =
+      let n : 3 * k + j ≡ length (settingsRows W α₀ β₀ γ₀ k) + j = omega (arith, settings-length W α₀ β₀ γ₀ k) in
+      rw e (ap (λ (t : ℕ). getD (settingsRows W α₀ β₀ γ₀ k ++ drop (3 * k) rows) t 0) n ∙ getD-append-add (settingsRows W α₀ β₀ γ₀ k) (drop (3 * k) rows) j 0 ∙ getD-drop (3 * k) rows j 0)
+
+  -- so a row that is not yet written has its modules and its central
+  pub passable-now : (k : ℕ) (now : List ℕ) → now ≡ settingsRows W α₀ β₀ γ₀ k ++ drop (3 * k) rows → Passable W rows k → Passable W now k
+  passable-now k now e p =
+      let zero : 3 * k + 0 ≡ 3 * k = omega arith in
+      record {
+        small = p .small;
+        input = rw (rw zero at (written-byte k 0 now e)) (p .input);
+        central = rw (written-byte k 1 now e) (p .central);
+        output = rw (written-byte k 2 now e) (p .output);
+      }
+
+  pub written-length : (k : ℕ) (now : List ℕ) → now ≡ settingsRows W α₀ β₀ γ₀ k ++ drop (3 * k) rows → 3 * k ≤ length rows → length now ≡ length rows
+  written-length k now e l = ap length e ∙ length-append (settingsRows W α₀ β₀ γ₀ k) (drop (3 * k) rows) ∙ omega (arith, settings-length W α₀ β₀ γ₀ k, length-drop (3 * k) rows)
+
+  pub written-next : (k : ℕ) (now : List ℕ) → now ≡ settingsRows W α₀ β₀ γ₀ k ++ drop (3 * k) rows → 3 * k + 3 ≤ length rows
+      → set (set now (3 * k) (wavelengthBetween W (getD now (3 * k) 0) (getD now (3 * k + 1) 0))) (3 * k + 2) (wavelengthBetween W (getD now (3 * k + 1) 0) (getD now (3 * k + 2) 0))
+      ≡ settingsRows W α₀ β₀ γ₀ (k + 1) ++ drop (3 * (k + 1)) rows
+  unfolding settingsRows moduleIn
+  written-next k now e l =
+      let zero : 3 * k + 0 ≡ 3 * k = omega arith in
+      let a : getD now (3 * k) 0 ≡ α₀ k = rw zero at (written-byte k 0 now e) in
+      let g : getD now (3 * k + 1) 0 ≡ γ₀ k = written-byte k 1 now e ∙ sym (central-at rows k l) in
+      let b : getD now (3 * k + 2) 0 ≡ β₀ k = written-byte k 2 now e in
+      rw (a, g, b, add-one k)
+      (ap (λ (t : List ℕ). set (set t (3 * k) (wavelengthBetween W (α₀ k) (γ₀ k))) (3 * k + 2) (wavelengthBetween W (γ₀ k) (β₀ k))) (e ∙ ap (λ (t : List ℕ). settingsRows W α₀ β₀ γ₀ k ++ t) (three k l))
+      ∙ store-row (settingsRows W α₀ β₀ γ₀ k) (drop (3 * (k + 1)) rows) (α₀ k) (γ₀ k) (β₀ k) _ _ (3 * k) (settings-length W α₀ β₀ γ₀ k)
+      ∙ rw (add-one k))
+
+  -- all rows are written
+  pub written-all : (k K : ℕ) (now : List ℕ) → now ≡ settingsRows W α₀ β₀ γ₀ k ++ drop (3 * k) rows → length rows ≡ 3 * K → k ≡ length rows / 3
+      → now ≡ settingsRows W α₀ β₀ γ₀ (length rows / 3)
+  written-all k K now e whole n =
+      rw (← n) (e ∙ ap (λ (t : List ℕ). settingsRows W α₀ β₀ γ₀ k ++ t) (drop-of-length-le rows {i = 3 * k} (omega arith)) ∙ append-nil (settingsRows W α₀ β₀ γ₀ k))
+
+-- only the rows that are written matter
+pub settings-agree : {α α′ β β′ g g′ : ℕ → ℕ} (W k : ℕ) → Agree α α′ k → Agree β β′ k → Agree g g′ k → settingsRows W α β g k ≡ settingsRows W α′ β′ g′ k
+unfolding settingsRows
+settings-agree W zero a b c = refl
+settings-agree W (suc k) a b c =
+    rw (settings-agree W k (λ i l. a i (omega arith)) (λ i l. b i (omega arith)) (λ i l. c i (omega arith)), a k (omega arith), b k (omega arith), c k (omega arith))
+
+pub planned-length : (net : Network) (calls : List ℕ) → length (plannedSettings net calls) ≡ 3 * rowCount calls
+unfolding plannedSettings
+planned-length net calls = settings-length (cycle net) (α calls) (β calls) (at (chosen net calls .centrals)) (rowCount calls)
+
+-- ---- lawful settings
+
 -- centrals that no module uses twice make lawful settings
-pub settings-lawful : (net : Network) (calls : List ℕ) (g : ℕ → ℕ) → OwnModules net calls → Fine (α calls) (β calls) (order net) g (rowCount calls) → Lawful net calls (settingsRows (cycle net) calls g (rowCount calls))
+pub settings-lawful : (net : Network) (calls : List ℕ) (g : ℕ → ℕ) → T (withinLimits net) → ModulesBelow (α calls) (β calls) (net .r) (rowCount calls)
+    → Fine (α calls) (β calls) (order net) g (rowCount calls) → Lawful net calls (settingsRows (cycle net) (α calls) (β calls) g (rowCount calls))
 unfolding rowAt
-settings-lawful net calls g own fine = lawful-plain net calls (settingsRows (cycle net) calls g (rowCount calls)) own .1 (record {
-  whole = settings-length (cycle net) calls g (rowCount calls);
+settings-lawful net calls g limits own fine = lawful-plain net calls (settingsRows (cycle net) (α calls) (β calls) g (rowCount calls)) limits own .1 (record {
+  whole = settings-length (cycle net) (α calls) (β calls) g (rowCount calls);
   through = λ i l. record {
-    own-γ = rw (settings-γ (cycle net) calls g (rowCount calls) i l) (order-own net (g i) .0 (fine .inside i l));
-    x-is = rw (settings-x (cycle net) calls g (rowCount calls) i l, settings-γ (cycle net) calls g (rowCount calls) i l);
-    y-is = rw (settings-y (cycle net) calls g (rowCount calls) i l, settings-γ (cycle net) calls g (rowCount calls) i l);
+    own-γ = rw (central i l) (order-own net (g i) .0 (fine .inside i l));
+    x-is = rw (settings-x (cycle net) (α calls) (β calls) g (rowCount calls) i l, central i l);
+    y-is = rw (settings-y (cycle net) (α calls) (β calls) g (rowCount calls) i l, central i l);
   };
-  inputs = λ j k i l e f. omega (arith, fine .proper-α i j (omega arith) k e (sym (settings-γ (cycle net) calls g (rowCount calls) i (omega arith)) ∙ f ∙ settings-γ (cycle net) calls g (rowCount calls) j k));
-  outputs = λ j k i l f e. omega (arith, fine .proper-β i j (omega arith) k e (sym (settings-γ (cycle net) calls g (rowCount calls) i (omega arith)) ∙ f ∙ settings-γ (cycle net) calls g (rowCount calls) j k));
+  inputs = once (fine .proper-α);
+  outputs = once (fine .proper-β);
 })
+  where
+    central : (i : ℕ) → i < rowCount calls → γ (settingsRows (cycle net) (α calls) (β calls) g (rowCount calls)) i ≡ g i
+    central = settings-γ (cycle net) (α calls) (β calls) g (rowCount calls)
+
+    once : {f : ℕ → ℕ} → Once f g (rowCount calls) → Once f (γ (settingsRows (cycle net) (α calls) (β calls) g (rowCount calls))) (rowCount calls)
+    once w i j li lj e q = w i j li lj e (sym (central i li) ∙ q ∙ central j lj)
 
 -- and the centrals of lawful settings are used twice by no module
-pub lawful-fine : (net : Network) (calls settings : List ℕ) → OwnModules net calls → Lawful net calls settings → Fine (α calls) (β calls) (order net) (γ settings) (rowCount calls)
+pub lawful-fine : (net : Network) (calls settings : List ℕ) → T (withinLimits net) → ModulesBelow (α calls) (β calls) (net .r) (rowCount calls) → Lawful net calls settings
+    → Fine (α calls) (β calls) (order net) (γ settings) (rowCount calls)
 unfolding rowAt
-lawful-fine net calls settings own h =
-    let p = lawful-plain net calls settings own .0 h in
-    record {
-      proper-α = proper (α calls) (p .inputs);
-      proper-β = proper (β calls) (λ j k i l e f. p .outputs j k i l f e);
-      inside = λ i l. order-own net (γ settings i) .1 (p .through i l .own-γ);
-    }
-  where
-    proper : (f : ℕ → ℕ) → ((j : ℕ) → j < rowCount calls → (i : ℕ) → i < j → f i ≡ f j → γ settings i ≡ γ settings j → ⊥)
-        → (i j : ℕ) → i < rowCount calls → j < rowCount calls → f i ≡ f j → γ settings i ≡ γ settings j → i ≡ j
-    proper f once i j li lj e q = ⊎-elim (λ l. absurd (once j lj i l e q)) (λ g. ⊎-elim (λ l. absurd (once i li j l (sym e) (sym q))) (λ m. omega arith) (lt-or-le j i)) (lt-or-le i j)
+lawful-fine net calls settings limits own h =
+    let p = lawful-plain net calls settings limits own .0 h in
+    record { proper-α = p .inputs; proper-β = p .outputs; inside = λ i l. order-own net (γ settings i) .1 (p .through i l .own-γ) }

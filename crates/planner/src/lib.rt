@@ -1,18 +1,19 @@
 // The planner: settings for a table of calls by the choice rule and the grating rule, for any bytes at all. Where no module has
 // more calls than there are centrals it yields lawful settings; where one has more it refuses, and no settings would be lawful.
 ghost use mathlib.Core.Path.{_≡_};
-ghost use mathlib.Core.List.{_++_};
-ghost use Prim.Native.Nat.{ℕ, _+_, _*_, _≤_, _<_};
+ghost use mathlib.Core.Bool.{true, false};
+ghost use Prim.Native.Nat.{ℕ, _+_, _*_, _/_, _≤_, _<_};
 ghost use lib.Dec.{T};
-ghost use lib.ListN.{length, getD, set, drop};
-ghost use Rattle.shelf.specs.Network.{withinLimits, cycle as networkCycle};
+ghost use lib.ListN.{length, getD, set};
+ghost use Rattle.grating.specs.Grating.{wavelengthBetween};
+ghost use Rattle.shelf.specs.Network.{withinLimits};
 ghost use Rattle.shelf.specs.Rows.{rowCount, α, β};
-ghost use Rattle.choice.specs.Rule.{at, planFrom};
-ghost use Rattle.choice.specs.Order.{order};
-ghost use Rattle.choice.specs.Record.{places};
 ghost use Rattle.calls.specs.Table.{Inside};
-ghost use Rattle.planner.specs.Planner.{settingsRows, overfullRow, chosen, Plans};
-ghost use Rattle.planner.specs.Steps.{refusals, Counted, Ready, Writable, Plannable};
+ghost use Rattle.choice.specs.Rule.{at};
+ghost use Rattle.choice.specs.Rows.{moduleIn, centralsOf};
+ghost use Rattle.choice.specs.Record.{modulesOfBoth};
+ghost use Rattle.planner.specs.Planner.{settingsRows, overfullRow, plannedSettings, plannedMoved, Plans};
+ghost use Rattle.planner.specs.Steps.{refusals, Counted, Ready, AllPlaced, Passable, Writable};
 use calls::Verdict;
 use shelf::CallRow;
 use shelf::Network;
@@ -42,24 +43,25 @@ pub fn plan(net: Network, calls: &[u8], settings: &mut [u8]) -> Planned
             moved: 0,
         };
     }
-    let mut centrals = [0u8; Network::MOST_CALLS];
-    let moved = place_and_write(net, calls, &mut centrals, settings);
+    let count = calls.len() / 4;
+    let end = 3 * count;
+    let moved = place_and_write(net, calls, &mut settings[..end]);
     Planned {
         number: 0,
-        row: calls.len() / 4,
+        row: count,
         moved,
     }
 }
 
-// Places the calls and writes their settings, with room for a central for each call, and tells how many calls were moved.
-fn place_and_write(net: Network, calls: &[u8], centrals: &mut [u8], settings: &mut [u8]) -> usize
-    requires { ⌜ Plannable net (now calls) (now centrals) (now settings) ⌝ }
-    ensures settings { λ moved. ⌜ now (settings .exit) ≡ settingsRows (networkCycle net) (now (calls .entry)) (at (chosen net (now (calls .entry)) .centrals)) (rowCount (now (calls .entry))) ++ drop (3 * rowCount (now (calls .entry))) (now (settings .entry)) ⌝ }
-    ensures moved { λ moved. ⌜ moved ≡ chosen net (now (calls .entry)) .moved ⌝ }
+// Places the calls and writes their settings, and tells how many calls were moved. Until the wavelengths are known, the rows
+// hold the modules in their place.
+fn place_and_write(net: Network, calls: &[u8], rows: &mut [u8]) -> usize
+    requires { ⌜ Ready net (now calls) (now rows) ⌝ }
+    ensures settings { λ moved. ⌜ now (rows .exit) ≡ plannedSettings net (now (calls .entry)) ⌝ }
+    ensures moved { λ moved. ⌜ moved ≡ plannedMoved net (now (calls .entry)) ⌝ }
 {
-    let count = calls.len() / 4;
-    let moved = place_all(net, calls, &mut centrals[..count]);
-    write_settings(net, calls, &centrals[..count], settings);
+    let moved = place_all(net, calls, rows);
+    write_wavelengths(net.cycle(), rows);
     moved
 }
 
@@ -94,10 +96,10 @@ fn seek_overfull(net: Network, calls: &[u8]) -> Verdict
         let call = CallRow::at(calls, row);
         let inputs = one_more(&mut tally, call.input_module);
         let outputs = one_more(&mut tally, Network::MOST_MODULES + call.output_module);
-        if net.m < inputs {
+        if net.centrals() < inputs {
             return Verdict { number: 8, row };
         }
-        if net.m < outputs {
+        if net.centrals() < outputs {
             return Verdict { number: 8, row };
         }
         row += 1;
@@ -105,64 +107,67 @@ fn seek_overfull(net: Network, calls: &[u8]) -> Verdict
     Verdict { number: 0, row: 0 }
 }
 
-// Counts one call more at a place, and tells how many it has now.
-fn one_more(tally: &mut [u8; MODULES], place: usize) -> usize
-    requires { ⌜ (place < places) × (getD (now tally) place 0 < 255) ⌝ }
-    ensures { λ c. ⌜ Counted (now (tally .entry)) (now (tally .exit)) place c ⌝ }
+// Counts one call more at a module, by its number among those of both sides, and tells how many it has now.
+fn one_more(tally: &mut [u8; MODULES], module: usize) -> usize
+    requires { ⌜ («module» < modulesOfBoth) × (getD (now tally) «module» 0 < 255) ⌝ }
+    ensures { λ c. ⌜ Counted (now (tally .entry)) (now (tally .exit)) «module» c ⌝ }
 {
-    let more = tally[place] + 1;
-    tally[place] = more;
+    let more = tally[module] + 1;
+    tally[module] = more;
     more as usize
 }
 
-// Places all calls in row order, and tells how many were moved. `centrals` has a place for each call.
-fn place_all(net: Network, calls: &[u8], centrals: &mut [u8]) -> usize
-    requires { ⌜ Ready net (now calls) (now centrals) ⌝ }
-    ensures centrals { λ moved. ⌜ now (centrals .exit) ≡ planFrom (α (now (calls .entry))) (β (now (calls .entry))) (order net) (now (centrals .entry)) (rowCount (now (calls .entry))) .centrals ⌝ }
-    ensures moved { λ moved. ⌜ moved ≡ planFrom (α (now (calls .entry))) (β (now (calls .entry))) (order net) (now (centrals .entry)) (rowCount (now (calls .entry))) .moved ⌝ }
+// Places all calls in row order, and tells how many were moved. `rows` has three bytes for each call: its input module, its
+// central and its output module.
+fn place_all(net: Network, calls: &[u8], rows: &mut [u8]) -> usize
+    requires { ⌜ Ready net (now calls) (now rows) ⌝ }
+    ensures { λ moved. ⌜ AllPlaced net (now (calls .entry)) (now (rows .entry)) (now (rows .exit)) moved ⌝ }
 {
     let count = calls.len() / 4;
-    let mut used = [0u8; choice::RECORD];
+    let mut used = choice::record_of(rows, 0);
+    let mut chain = [0u16; choice::CHAIN];
     let mut moved = 0;
     let mut placed = 0;
     while placed < count {
-        moved += choice::place(net, calls, centrals, &mut used, placed);
+        enter_call(calls, rows, placed);
+        let end = 3 * placed + 3;
+        moved += choice::place(net, &mut rows[..end], placed, &mut used, &mut chain);
         placed += 1;
     }
     moved
 }
 
-// Writes the settings rows: each call's central, and the wavelengths that lead to it and from it.
-fn write_settings(net: Network, calls: &[u8], centrals: &[u8], settings: &mut [u8])
-    requires { ⌜ Writable net (now calls) (now centrals) (now settings) ⌝ }
-    ensures { λ _. ⌜ now (settings .exit) ≡ settingsRows (networkCycle net) (now (calls .entry)) (at (now (centrals .entry))) (rowCount (now (calls .entry))) ++ drop (3 * rowCount (now (calls .entry))) (now (settings .entry)) ⌝ }
+// The modules of a call stand in its row.
+fn enter_call(calls: &[u8], rows: &mut [u8], row: usize)
+    requires { ⌜ (4 * row + 4 ≤ length (now calls)) × (3 * row + 3 ≤ length (now rows)) ⌝ }
+    ensures { λ _. ⌜ now (rows .exit) ≡ set (set (now (rows .entry)) (3 * row) (α (now (calls .entry)) row)) (3 * row + 2) (β (now (calls .entry)) row) ⌝ }
 {
-    let cycle = net.cycle();
-    let count = calls.len() / 4;
+    rows[3 * row] = calls[4 * row];
+    rows[3 * row + 2] = calls[4 * row + 2];
+}
+
+// In each row the wavelengths that lead to its central and from it take the place of its modules.
+fn write_wavelengths(cycle: usize, rows: &mut [u8])
+    requires { ⌜ Writable cycle (now rows) ⌝ }
+    ensures { λ _. ⌜ now (rows .exit) ≡ settingsRows cycle (moduleIn (now (rows .entry)) false) (moduleIn (now (rows .entry)) true) (at (centralsOf (now (rows .entry)))) (length (now (rows .entry)) / 3) ⌝ }
+{
+    let count = rows.len() / 3;
     let mut written = 0;
     while written < count {
-        let call = CallRow::at(calls, written);
-        let central = centrals[written] as usize;
-        let to_central = grating::wavelength_between(cycle, call.input_module, central);
-        let from_central = grating::wavelength_between(cycle, central, call.output_module);
-        write_row(
-            settings,
-            written,
-            to_central as u8,
-            central as u8,
-            from_central as u8,
-        );
+        write_row(cycle, rows, written);
         written += 1;
     }
 }
 
-// Writes one settings row.
-fn write_row(settings: &mut [u8], row: usize, to_central: u8, central: u8, from_central: u8)
-    requires { ⌜ 3 * row + 3 ≤ length (now settings) ⌝ }
-    ensures { λ _. ⌜ now (settings .exit) ≡ set (set (set (now (settings .entry)) (3 * row) «to_central») (3 * row + 1) central) (3 * row + 2) «from_central» ⌝ }
+// The same in one row.
+fn write_row(cycle: usize, rows: &mut [u8], row: usize)
+    requires { ⌜ (3 * row + 3 ≤ length (now rows)) × Passable cycle (now rows) row ⌝ }
+    ensures { λ _. ⌜ now (rows .exit) ≡ set (set (now (rows .entry)) (3 * row) (wavelengthBetween cycle (getD (now (rows .entry)) (3 * row) 0) (getD (now (rows .entry)) (3 * row + 1) 0))) (3 * row + 2) (wavelengthBetween cycle (getD (now (rows .entry)) (3 * row + 1) 0) (getD (now (rows .entry)) (3 * row + 2) 0)) ⌝ }
 {
     let start = 3 * row;
-    settings[start] = to_central;
-    settings[start + 1] = central;
-    settings[start + 2] = from_central;
+    let input = ground::byte_at(rows, start);
+    let central = ground::byte_at(rows, start + 1);
+    let output = ground::byte_at(rows, start + 2);
+    rows[start] = grating::wavelength_between(cycle, input, central) as u8;
+    rows[start + 2] = grating::wavelength_between(cycle, central, output) as u8;
 }

@@ -1,24 +1,31 @@
 -- What the writers answer and what they leave in the buffer, as functions of their input: one definition for both kinds.
---   partChecks kind net note calls settings room == 1, 2, 3, 16, 4, then the checks of the rows, for a buffer of `room` bytes
+--   longNote note, shortBuffer size room == 16 and 4, for a file of `size` bytes and a buffer of `room` bytes
+--   partChecks kind net note calls settings room == 1, 2, 3, 16, 4, then the checks of the rows
 --   writerVerdict ..      == the answer
 --   writeBuffer ..        == the buffer afterwards
 --   HasRoom kind ..       == what has to hold for the file to be put into the buffer
 --   Writes kind ..        == what the entries guarantee
+--   layoutWith net kind note calls settings == the layout of the file of these parts
+--   GivenBack ..          == what a reader tells is this layout, and the parts there are these
 use mathlib.Core.Path.{_≡_}
 use mathlib.Core.Bool.{cond}
-use mathlib.Core.List.{List}
-use Prim.Native.Nat.{ℕ, _≤_}
+use mathlib.Core.List.{List, [], _∷_}
+use Prim.Native.Nat.{ℕ, _+_, _≤_}
 use lib.Dec.{T, eqb, ltb}
 use lib.ListN.{length}
+use Rattle.ground.specs.Bytes.{front}
 use Rattle.shelf.specs.declared.Network.{Network}
 use Rattle.shelf.specs.Network.{withinLimits, mostCalls}
 use Rattle.shelf.specs.Rows.{rowCount}
 use Rattle.shelf.specs.Light.{Lawful}
 use Rattle.calls.specs.declared.Verdict.{Verdict}
-use Rattle.calls.specs.Verdict.{success, refusedIf, _⨾_}
+use Rattle.calls.specs.Verdict.{refusedIf, answer}
 use Rattle.calls.specs.Table.{sizeChecks, InOrder}
-use Rattle.planfile.specs.File.{planned, mostNote, settingsPerCall, fileOf, front}
+use Rattle.planfile.specs.declared.Layout.{Layout}
+use Rattle.planfile.specs.declared.Told.{Told}
+use Rattle.planfile.specs.File.{planned, mostNote, settingsPerCall, fileOf}
 use Rattle.planfile.specs.Checks.{tableChecks}
+use Rattle.planfile.specs.Reader.{wholeTold, noteIn, callsIn, settingsIn}
 
 -- 16: "note to be written above 255 bytes"
 unfoldable pub longNote : List ℕ → Verdict
@@ -29,15 +36,16 @@ unfoldable pub shortBuffer : ℕ → ℕ → Verdict
 shortBuffer size room = refusedIf 4 0 (ltb room size)
 
 -- "File writer: 1, 2, 3, 16, 4, then as acceptance from 5." "the writer of one is given settings of no bytes, else 2"
-unfoldable pub partChecks : ℕ → Network → List ℕ → List ℕ → List ℕ → ℕ → Verdict
+unfoldable pub partChecks : ℕ → Network → List ℕ → List ℕ → List ℕ → ℕ → List Verdict
 partChecks kind net note calls settings room =
     sizeChecks net (length calls) (length settings) (settingsPerCall kind)
-    ⨾ longNote note
-    ⨾ shortBuffer (length (fileOf net kind note calls settings)) room
-    ⨾ tableChecks net kind calls settings
+    ∷ longNote note
+    ∷ shortBuffer (length (fileOf net kind note calls settings)) room
+    ∷ tableChecks net kind calls settings
+    ∷ []
 
 unfoldable pub writerVerdict : ℕ → Network → List ℕ → List ℕ → List ℕ → ℕ → Verdict
-writerVerdict kind net note calls settings room = partChecks kind net note calls settings room ⨾ success (rowCount calls)
+writerVerdict kind net note calls settings room = answer (partChecks kind net note calls settings room) (rowCount calls)
 
 -- "All refusals .. write nothing anywhere. Success writes .. exactly the file (writer); bytes beyond keep their values."
 unfoldable pub writeBuffer : ℕ → Network → List ℕ → List ℕ → List ℕ → List ℕ → List ℕ
@@ -62,3 +70,21 @@ pub record Writes (kind : ℕ) (net : Network) (note calls settings before after
   -- what is written is a table in order, and if planned its settings are lawful
   pub in-order : v .number ≡ 0 → InOrder net calls
   pub lawful : v .number ≡ 0 → kind ≡ planned → Lawful net calls settings
+
+-- ---- what writing then reading gives back: n, m, r, kind, K and where note, calls and settings begin
+
+unfoldable pub layoutWith : Network → ℕ → List ℕ → List ℕ → List ℕ → Layout
+layoutWith net kind note calls settings = record {
+  net = net;
+  kind = kind;
+  count = rowCount calls;
+  «trailer_at» = length note + length calls + length settings;
+  «calls_at» = length note;
+  «settings_at» = length note + length calls;
+}
+
+pub record GivenBack (net : Network) (kind : ℕ) (note calls settings file : List ℕ) (told : Told) : Type 0 where
+  pub tells : told ≡ wholeTold (layoutWith net kind note calls settings)
+  pub note-back : noteIn file told ≡ note
+  pub calls-back : callsIn file told ≡ calls
+  pub settings-back : settingsIn file told ≡ settings

@@ -4,8 +4,10 @@ ghost use mathlib.Core.Path.{_≡_};
 ghost use Prim.Native.Nat.{_≤_, _<_};
 ghost use lib.Dec.{T};
 ghost use lib.ListN.{length};
+ghost use Rattle.ground.specs.Bytes.{front};
 ghost use Rattle.shelf.specs.Network.{withinLimits, mostCalls};
-ghost use Rattle.planfile.specs.File.{callsOnly, planned, highByte, lowByte, trailerOf, fileOf, front};
+ghost use Rattle.calls.specs.Verdict.{inTurn};
+ghost use Rattle.planfile.specs.File.{callsOnly, planned, trailerOf, fileOf};
 ghost use Rattle.planwriter.specs.Writer.{partChecks, HasRoom, Writes};
 use calls::Verdict;
 use shelf::Network;
@@ -63,14 +65,11 @@ fn put_file(net: Network, kind: usize, note: &[u8], calls: &[u8], settings: &[u8
     requires { ⌜ (kind < 256) × HasRoom kind net (now note) (now calls) (now settings) (length (now out)) ⌝ }
     ensures { λ _. ⌜ now (out .exit) ≡ front (now (out .entry)) (fileOf net kind (now (note .entry)) (now (calls .entry)) (now (settings .entry))) ⌝ }
 {
-    let calls_at = note.len();
-    let settings_at = calls_at + calls.len();
-    let trailer_at = settings_at + settings.len();
     let trailer = trailer_of(net, kind, calls.len() / 4);
-    planfile::copy_in(note, out, 0);
-    planfile::copy_in(calls, out, calls_at);
-    planfile::copy_in(settings, out, settings_at);
-    planfile::copy_in(&trailer, out, trailer_at);
+    let calls_at = ground::write_bytes(out, 0, note);
+    let settings_at = ground::write_bytes(out, calls_at, calls);
+    let trailer_at = ground::write_bytes(out, settings_at, settings);
+    ground::write_bytes(out, trailer_at, &trailer);
 }
 
 // The checks of the parts of a file that is to be written, in a writer's order.
@@ -82,7 +81,7 @@ fn check_parts(
     settings: &[u8],
     room: usize,
 ) -> Verdict
-    ensures { λ v. ⌜ v ≡ partChecks kind net (now (note .entry)) (now (calls .entry)) (now (settings .entry)) room ⌝ }
+    ensures { λ v. ⌜ v ≡ inTurn (partChecks kind net (now (note .entry)) (now (calls .entry)) (now (settings .entry)) room) ⌝ }
 {
     let sizes = calls::check_sizes(
         net,
@@ -115,27 +114,13 @@ fn trailer_of(net: Network, kind: usize, count: usize) -> [u8; planfile::TRAILER
         net.m as u8,
         net.r as u8,
         kind as u8,
-        high_byte(count),
-        low_byte(count),
-        high_byte(settings_back),
-        low_byte(settings_back),
-        high_byte(calls_back),
-        low_byte(calls_back),
-        planfile::FIRST_MARK,
-        planfile::SECOND_MARK,
+        ground::high_byte(count),
+        ground::low_byte(count),
+        ground::high_byte(settings_back),
+        ground::low_byte(settings_back),
+        ground::high_byte(calls_back),
+        ground::low_byte(calls_back),
+        ground::high_byte(planfile::MARK),
+        ground::low_byte(planfile::MARK),
     ]
-}
-
-// The high byte of a two-byte number.
-fn high_byte(value: usize) -> u8
-    ensures { λ byte. ⌜ byte ≡ highByte value ⌝ }
-{
-    (value / 256 % 256) as u8
-}
-
-// The low byte of a two-byte number.
-fn low_byte(value: usize) -> u8
-    ensures { λ byte. ⌜ byte ≡ lowByte value ⌝ }
-{
-    (value % 256) as u8
 }

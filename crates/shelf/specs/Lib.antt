@@ -1,8 +1,8 @@
 pub mod Network
 pub mod NetworkLaws
+pub mod Order
+pub mod OrderLaws
 pub mod Rows
-pub mod Every
-pub mod Slots
 pub mod Light
 pub mod Arrival
 pub mod Collisions

@@ -1,21 +1,26 @@
 -- How light travels through the shelf, and which settings are lawful. Nothing here mentions the acceptance of settings.
 --   Row, rowAt, rowOf  == what the light of one row goes by: α and β of its call, x, γ and y of its settings
+--   portBelow top port == the port, or none where nothing stands there and the light is lost
 --   first net ρ        == the port p at which the row's light leaves the first grating, or none where it is lost there
 --   second net ρ       == the port q at which it leaves the second grating, or none where it is lost before or there
---   Kind               == the four kinds of link
---   link net ρ kind    == the link of that kind which the row's light passes, by its port, and the wavelength it carries
+--   Kind, kinds        == the four kinds of link, and all of them in a list
+--   Lit                == a link, by its port, and the wavelength that it carries
+--   link net ρ kind    == the link of that kind which the row's light passes, with its wavelength; same tells whether two are the same
 --   collideOn net ρ σ kind == two rows share a link of that kind and its wavelength
---   Collide net ρ σ    == they do so on one of the four kinds
---   owned net ρ        == the row uses the shelf's own wavelengths and centrals
---   reaches net ρ      == its light comes through its named central to its output module
---   arrives net ρ      == both
---   Lawful net calls settings == the settings are lawful for the calls
-use mathlib.Core.Bool.{Bool, false, not, cond, _&&_, _||_}
+--   collide, Collide net ρ σ == they do so on one of the four kinds
+--   is o port          == the light is at that port
+--   arrives net ρ      == the row uses the shelf's own wavelengths and centrals, and its light comes through its named central
+--                         to its output module
+--   rowForEachCall, everyRowArrives, noTwoRowsCollide == what makes settings lawful
+--   lawful, Lawful net calls settings == the settings are lawful for the calls
+use mathlib.Core.Bool.{Bool, false, not, cond, _&&_}
 use mathlib.Core.Option.{Option, none, some, Option·map}
-use mathlib.Core.List.{List}
+use mathlib.Core.List.{List, [], _∷_, map}
 use Prim.Native.Nat.{ℕ, _*_}
 use lib.Dec.{T, eqb, ltb}
 use lib.ListN.{length}
+use Rattle.ground.specs.Truth.{all, any}
+use Rattle.ground.specs.Below.{everyBelow}
 use Rattle.grating.specs.Grating.{exitPort}
 use Rattle.shelf.specs.declared.Network.{Network}
 use Rattle.shelf.specs.declared.CallRow.{CallRow}
@@ -23,7 +28,6 @@ use Rattle.shelf.specs.declared.SettingsRow.{SettingsRow}
 use Rattle.shelf.specs.Network.{cycle, ownWavelength, ownCentral}
 use Rattle.shelf.specs.Rows as rows
 use Rattle.shelf.specs.Rows.{rowCount}
-use Rattle.shelf.specs.Every.{everyBelow}
 
 pub record Row : Type 0 where
   pub α : ℕ
@@ -59,6 +63,9 @@ second net ρ = elim (first net ρ) [ none ↦ none | some p ↦ portBelow (net 
 pub data Kind : Type 0 where
   to-first to-central to-second to-output : Kind
 
+abbrev pub kinds : List Kind
+kinds = to-first ∷ to-central ∷ to-second ∷ to-output ∷ []
+
 pub record Lit : Type 0 where
   pub port : ℕ
   pub wavelength : ℕ
@@ -79,25 +86,19 @@ unfoldable pub collideOn : Network → Row → Row → Kind → Bool
 collideOn net ρ σ kind = same (link net ρ kind) (link net σ kind)
 
 unfoldable pub collide : Network → Row → Row → Bool
-collide net ρ σ =
-    collideOn net ρ σ to-first || collideOn net ρ σ to-central || collideOn net ρ σ to-second || collideOn net ρ σ to-output
+collide net ρ σ = any (map (collideOn net ρ σ) kinds)
 
 abbrev pub Collide : Network → Row → Row → Type 0
 Collide net ρ σ = T (collide net ρ σ)
-
--- "every row has x < Λ, y < Λ, γ < m, p = γ, q = β"
-unfoldable pub owned : Network → Row → Bool
-owned net ρ = ownWavelength net (ρ .x) && ownWavelength net (ρ .y) && ownCentral net (ρ .γ)
 
 unfoldable pub is : Option ℕ → ℕ → Bool
 is none port = false
 is (some p) port = eqb p port
 
-unfoldable pub reaches : Network → Row → Bool
-reaches net ρ = is (first net ρ) (ρ .γ) && is (second net ρ) (ρ .β)
-
+-- "every row has x < Λ, y < Λ, γ < m, p = γ, q = β"
 unfoldable pub arrives : Network → Row → Bool
-arrives net ρ = owned net ρ && reaches net ρ
+arrives net ρ =
+    all (ownWavelength net (ρ .x) ∷ ownWavelength net (ρ .y) ∷ ownCentral net (ρ .γ) ∷ is (first net ρ) (ρ .γ) ∷ is (second net ρ) (ρ .β) ∷ [])
 
 -- "Settings are lawful when every row has x < Λ, y < Λ, γ < m, p = γ, q = β, and no two rows collide on any of the four
 -- kinds of link." Settings that lack a row for some call, or have one too many, are none for these calls.
@@ -112,8 +113,7 @@ noTwoRowsCollide net calls settings =
     everyBelow (rowCount calls) (λ j. everyBelow j (λ i. not (collide net (rowAt calls settings i) (rowAt calls settings j))))
 
 unfoldable pub lawful : Network → List ℕ → List ℕ → Bool
-lawful net calls settings =
-    rowForEachCall calls settings && everyRowArrives net calls settings && noTwoRowsCollide net calls settings
+lawful net calls settings = all (rowForEachCall calls settings ∷ everyRowArrives net calls settings ∷ noTwoRowsCollide net calls settings ∷ [])
 
 abbrev pub Lawful : Network → List ℕ → List ℕ → Type 0
 Lawful net calls settings = T (lawful net calls settings)

@@ -1,16 +1,22 @@
 -- The network's record, its limits and its cycle.
 --   mostChannels, mostCentrals, mostModules, mostCalls == the limits of n, m, r and of the rows of a table
+--   Limits ..          == four numbers are these limits
+--   within size most   == the size is at least 1 and at most that
 --   withinLimits net   == n, m and r are within their limits; else refusal 1
 --   cycle net          == Λ, the cycle of both gratings; the wavelengths inside the shelf are those below it
---   ownWavelength net x, ownCentral net γ == x is one of the shelf's own wavelengths, γ one of its own centrals
+--   ownWavelength net x == x is one of the shelf's own wavelengths
+--   hasCentral net γ   == there is a central of that number; else refusal 9
+--   ownCentral net γ   == γ is one of the shelf's own centrals, the ones that it may use
 --   sized net          == what the constructor answers
 --   Constructed        == number, row and network of an answer, and toldBy those of each case of the constructor's
 --   Built net answer   == what the constructor guarantees
 use mathlib.Core.Path.{_≡_}
 use mathlib.Core.Bool.{Bool, cond, _&&_}
+use mathlib.Core.List.{[], _∷_}
 use mathlib.Core.Option.{Option, none, some}
 use Prim.Native.Nat.{ℕ, max}
 use lib.Dec.{leb, ltb}
+use Rattle.ground.specs.Truth.{all}
 use Rattle.shelf.specs.declared.Network.{Network}
 use Rattle.shelf.specs.declared.Sized.{Sized}
 use Rattle.shelf.specs.declared.Sized.the-variants.{Made, Refused}
@@ -40,7 +46,7 @@ unfoldable pub within : ℕ → ℕ → Bool
 within size most = leb 1 size && leb size most
 
 unfoldable pub withinLimits : Network → Bool
-withinLimits net = within (net .n) mostChannels && (within (net .m) mostCentrals && within (net .r) mostModules)
+withinLimits net = all (within (net .n) mostChannels ∷ within (net .m) mostCentrals ∷ within (net .r) mostModules ∷ [])
 
 -- "Λ is the larger of r and m, as in document 004; wavelengths inside the shelf are numbered 0 to Λ−1."
 unfoldable pub cycle : Network → ℕ
@@ -49,8 +55,11 @@ cycle net = max (net .r) (net .m)
 unfoldable pub ownWavelength : Network → ℕ → Bool
 ownWavelength net x = ltb x (cycle net)
 
+unfoldable pub hasCentral : Network → ℕ → Bool
+hasCentral net γ = ltb γ (net .m)
+
 unfoldable pub ownCentral : Network → ℕ → Bool
-ownCentral net γ = ltb γ (net .m)
+ownCentral net γ = hasCentral net γ
 
 -- The constructor's answer: the network of these sizes, or 1, "n, m or r outside its limits".
 unfoldable pub sized : Network → Sized

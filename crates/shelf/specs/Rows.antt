@@ -1,7 +1,9 @@
 -- Rows out of bytes.
 --   rowCount calls   == K, the number of rows of a call table
 --   α, ω, β, ω'      == input module, its channel, output module, its channel of call row i
---   moduleOf calls output == β where `output`, else α: so that what is said of one side is said of both
+--   callAt calls i   == call row i as the code's record has it
+--   moduleOf, channelOf calls output == β and ω' where `output`, else α and ω: so that what is said of one side is said of both
+--   ModulesBelow α β r k == the modules of the rows below k are numbers below r
 --   x, γ, y          == wavelength after the input module, central module, wavelength after it of settings row i
 --   CallRead, SettingsRead == what the code's row records hold: these numbers, and each is a byte
 use mathlib.Core.Path.{_≡_}
@@ -28,10 +30,20 @@ unfoldable pub β : List ℕ → ℕ → ℕ
 unfoldable pub ω' : List ℕ → ℕ → ℕ
 ω' calls i = getD calls (4 * i + 3) 0
 
--- the module of row i on one side: its output module where `output`, else its input module
+abbrev pub callAt : List ℕ → ℕ → CallRow
+callAt calls i = record { «input_module» = α calls i; «input_channel» = ω calls i; «output_module» = β calls i; «output_channel» = ω' calls i }
+
+-- the module and the channel of row i on one side: of its outlet where `output`, else of its inlet
 abbrev pub moduleOf : List ℕ → Bool → ℕ → ℕ
 moduleOf calls true = β calls
 moduleOf calls false = α calls
+
+abbrev pub channelOf : List ℕ → Bool → ℕ → ℕ
+channelOf calls true = ω' calls
+channelOf calls false = ω calls
+
+abbrev pub ModulesBelow : (α β : ℕ → ℕ) (r k : ℕ) → Type 0
+ModulesBelow α β r k = (i : ℕ) → i < k → (α i < r) × (β i < r)
 
 -- "A settings row is 3 bytes: x, γ, y: the wavelength after the input module, the central module, the wavelength after
 -- the central module."

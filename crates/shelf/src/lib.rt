@@ -1,9 +1,10 @@
 // The shelf: the network's own record with its limits, and the rows of a call table and of settings out of bytes.
 // How light travels through a shelf, and which settings are lawful, are definitions in specs/Light.antt.
 ghost use mathlib.Core.Path.{_≡_};
-ghost use Prim.Native.Nat.{_+_, _*_, _≤_, _<_};
-ghost use lib.ListN.{length, getD};
+ghost use Prim.Native.Nat.{_+_, _*_, _≤_};
+ghost use lib.ListN.{length};
 ghost use Rattle.shelf.specs.Network.{Limits, within, withinLimits, Built, cycle};
+ghost use Rattle.shelf.specs.Order.{order};
 ghost use Rattle.shelf.specs.Rows.{CallRead, SettingsRead};
 
 // The sizes of a network: channels of each module, central modules, input modules (and as many output modules).
@@ -67,6 +68,13 @@ impl Network {
         let r = self.r;
         if r < m { m } else { r }
     }
+
+    // How many centrals the shelf has to choose from.
+    pub fn centrals(self) -> usize
+        ensures { λ c. ⌜ c ≡ length (order self) ⌝ }
+    {
+        self.m
+    }
 }
 
 // Whether `size` is at least 1 and at most `most`.
@@ -92,10 +100,10 @@ impl CallRow {
     {
         let start = 4 * row;
         CallRow {
-            input_module: byte_at(calls, start),
-            input_channel: byte_at(calls, start + 1),
-            output_module: byte_at(calls, start + 2),
-            output_channel: byte_at(calls, start + 3),
+            input_module: ground::byte_at(calls, start),
+            input_channel: ground::byte_at(calls, start + 1),
+            output_module: ground::byte_at(calls, start + 2),
+            output_channel: ground::byte_at(calls, start + 3),
         }
     }
 }
@@ -115,24 +123,9 @@ impl SettingsRow {
     {
         let start = 3 * row;
         SettingsRow {
-            to_central: byte_at(settings, start),
-            central: byte_at(settings, start + 1),
-            from_central: byte_at(settings, start + 2),
+            to_central: ground::byte_at(settings, start),
+            central: ground::byte_at(settings, start + 1),
+            from_central: ground::byte_at(settings, start + 2),
         }
     }
-}
-
-// The byte that stands at a place, as a number.
-pub fn byte_at(bytes: &[u8], at: usize) -> usize
-    requires { ⌜ at < length (now bytes) ⌝ }
-    ensures { λ value. ⌜ (value ≡ getD (now (bytes .entry)) at 0) × (value < 256) ⌝ }
-{
-    wide(bytes[at])
-}
-
-// A byte as a number.
-fn wide(byte: u8) -> usize
-    ensures { λ value. ⌜ (value ≡ byte) × (value < 256) ⌝ }
-{
-    byte as usize
 }

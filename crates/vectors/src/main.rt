@@ -61,16 +61,16 @@ fn main() {
     }
 }
 
-// Answers the next input; false where none is left, or none that the two buffers have place for.
+// Answers the next input; false where none is left, or none that the two buffers have room for.
 fn answer_next(parts: &mut [u8], room: &mut [u8]) -> bool {
     let mut head = [0u8; HEAD];
     if !fill(&mut head) {
         return false;
     }
-    let note_end = planfile::number_at(&head, NOTE_AT);
-    let calls_end = note_end + planfile::number_at(&head, CALLS_AT);
-    let settings_end = calls_end + planfile::number_at(&head, SETTINGS_AT);
-    let room_end = planfile::number_at(&head, ROOM_AT);
+    let note_end = ground::number_at(&head, NOTE_AT);
+    let calls_end = note_end + ground::number_at(&head, CALLS_AT);
+    let settings_end = calls_end + ground::number_at(&head, SETTINGS_AT);
+    let room_end = ground::number_at(&head, ROOM_AT);
     if parts.len() < settings_end {
         return false;
     }
@@ -106,14 +106,14 @@ fn fill(buffer: &mut [u8]) -> bool {
     io::read_full(STDIN_FILENO, buffer) == buffer.len()
 }
 
-// The size that stands at a place of a head: eight bytes, the high byte first.
+// The size that stands at a position of a head: eight bytes, the high byte first.
 fn size_at(bytes: &[u8], at: usize) -> usize
     requires { ⌜ at + 8 ≤ length (now bytes) ⌝ }
 {
-    let highest = planfile::number_at(bytes, at);
-    let high = planfile::number_at(bytes, at + 2);
-    let low = planfile::number_at(bytes, at + 4);
-    let lowest = planfile::number_at(bytes, at + 6);
+    let highest = ground::number_at(bytes, at);
+    let high = ground::number_at(bytes, at + 2);
+    let low = ground::number_at(bytes, at + 4);
+    let lowest = ground::number_at(bytes, at + 6);
     ((highest * PAIRS + high) * PAIRS + low) * PAIRS + lowest
 }
 

@@ -6,7 +6,7 @@ use Rattle.shelf.specs.Rows.{rowCount}
 use Rattle.calls.specs.Verdict.{passed, refusedIf, seekRows}
 use Rattle.calls.specs.VerdictLaws.{seek-bad, seek-good, seek-end}
 use Rattle.calls.specs.Table.{outside, outsideRow}
-use Rattle.calls.specs.Point.{outside-read}
+use Rattle.calls.specs.TableLaws.{outside-read}
 use Rattle.calls.proofs.seek_outside.Statement.{statement}
 use Rattle.calls.proofs.seek_outside.Tie as tie
 
@@ -20,21 +20,9 @@ loop-holds : tie.Need-loop-holds Inv-loop μ-loop
 unfolding seekRows
 loop-holds c = (omega arith, refl)
 
-at-requires : tie.Need-at-requires Inv-loop μ-loop
-at-requires c κs = omega arith
-
-is-outside-requires : tie.Need-is-outside-requires Inv-loop μ-loop
-is-outside-requires c κs = tt
-
 returns : tie.Need-returns Inv-loop μ-loop
 unfolding outsideRow rowCount
 returns c = seek-bad 5 (outside _ _) _ _ (λ e. omega arith) (c .before .before .before .before .loop .inv .1) (sym (outside-read _ _ _ _ (c .before .before .at .ensures)) ∙ sym (c .before .is-outside .ensures) ∙ c .if1 .taken) (c .before .before .before .loop-test .taken)
-
-add-row : tie.Need-add-row Inv-loop μ-loop
-add-row c = omega arith
-
-loop-less : tie.Need-loop-less Inv-loop μ-loop
-loop-less c = omega arith
 
 loop-again : tie.Need-loop-again Inv-loop μ-loop
 loop-again c = (omega arith, seek-good 5 (outside _ _) _ (c .before .before .before .before .loop .inv .1) (sym (outside-read _ _ _ _ (c .before .before .at .ensures)) ∙ sym (c .before .is-outside .ensures) ∙ c .if1 .left))
@@ -46,4 +34,4 @@ returns-2 c = seek-end 5 (outside _ _) _ _ (c .before .loop .inv .0) (c .loop-te
 pub seek-outside-spec : {M : Type 1} → statement M
 seek-outside-spec =
     tie.close
-    (tie.spec Inv-loop μ-loop loop-holds at-requires is-outside-requires returns add-row loop-less loop-again returns-2)
+    (tie.spec Inv-loop μ-loop loop-holds (λ c κs. omega arith) (λ c κs. tt) returns (λ c. omega arith) (λ c. omega arith) loop-again returns-2)

@@ -1,326 +1,171 @@
--- The two chain steps meet their contracts: each calls the other, and the modules not yet met, `left`, fall with each call.
+-- The two chain steps meet their contracts: each calls the other, and the modules not yet met, `left`, fall with each call. What
+-- holds of a step on either side is in specs/Mending.antt; here it is said of each.
 use mathlib.Core.Path.{refl, _∙_}
 use mathlib.Core.Bool.{true, false}
+use Prim.Native.Nat.{ℕ, _+_, _*_, _≤_, _<_}
 use native.Mathlib.Omega.{arith}
-use lib.ListN.{length-set}
-use Rattle.shelf.specs.Rows.{moduleOf}
-use Rattle.choice.specs.Rule.{at}
-use Rattle.choice.specs.Walk.{walked-none, walked-end, walked-on, walked-few}
-use Prim.Native.Nat.{ℕ, _-_, _<_}
+use lib.ListN.{length}
 use borrow.Fn.Kinds.{In}
 use borrow.Fn.PlainCycle.{Measures, is, falls, and}
+use Rattle.choice.specs.Mending.{Stepping, mended-end, mended-on, mendable-on, some-left, change-room}
 use Rattle.choice.proofs.chain_from_input.Reads as chain-from-input
 use Rattle.choice.proofs.chain_from_input.Kinds as chain-from-input-kinds
 use Rattle.choice.proofs.+chain_from_input+chain_from_output.Lts-chain_from_input as chain-from-input-lts
 use Rattle.choice.proofs.chain_from_output.Reads as chain-from-output
 use Rattle.choice.proofs.chain_from_output.Kinds as chain-from-output-kinds
 use Rattle.choice.proofs.+chain_from_input+chain_from_output.Lts-chain_from_output as chain-from-output-lts
-use Rattle.choice.proofs.module_at.Reads as module-at-reads
-use Rattle.choice.proofs.row_on.Reads as row-on-reads
+use Rattle.choice.proofs.row_beside.Reads as row-beside-reads
+use Rattle.choice.proofs.central_at.Reads as central-at-reads
+use Rattle.choice.proofs.change.Reads as change-reads
 use Rattle.choice.proofs.+chain_from_input+chain_from_output.{statement}
 use Rattle.choice.proofs.+chain_from_input+chain_from_output.Tie.{close}
 
-abbrev μ-chain-from-input : Measures 2 chain-from-input-kinds.ps ℕ
-μ-chain-from-input κs a = a .1 .1 .1 .1 .1 .1 .0
+abbrev μ-input : Measures 2 chain-from-input-kinds.ps ℕ
+μ-input κs a = a .1 .1 .1 .1 .0
 
-abbrev μ-chain-from-output : Measures 2 chain-from-output-kinds.ps ℕ
-μ-chain-from-output κs a = a .1 .1 .1 .1 .1 .1 .0
+abbrev input-at : ℕ → In 2 chain-from-input-kinds.ps
+input-at t = and 2 chain-from-input-kinds.ps (is 2 chain-from-input-kinds.ps μ-input t) chain-from-input.Pre
 
-abbrev chain-from-input-at : ℕ → In 2 chain-from-input-kinds.ps
-chain-from-input-at t =
-    and
-    2
-    chain-from-input-kinds.ps
-    (is 2 chain-from-input-kinds.ps μ-chain-from-input t)
-    chain-from-input.Pre
+abbrev input-below : ℕ → In 2 chain-from-input-kinds.ps
+input-below t = and 2 chain-from-input-kinds.ps (falls 2 chain-from-input-kinds.ps _<_ μ-input t) chain-from-input.Pre
 
-abbrev chain-from-input-below : ℕ → In 2 chain-from-input-kinds.ps
-chain-from-input-below t =
-    and
-    2
-    chain-from-input-kinds.ps
-    (falls 2 chain-from-input-kinds.ps _<_ μ-chain-from-input t)
-    chain-from-input.Pre
+abbrev μ-output : Measures 2 chain-from-output-kinds.ps ℕ
+μ-output κs a = a .1 .1 .1 .1 .0
 
-abbrev chain-from-output-at : ℕ → In 2 chain-from-output-kinds.ps
-chain-from-output-at t =
-    and
-    2
-    chain-from-output-kinds.ps
-    (is 2 chain-from-output-kinds.ps μ-chain-from-output t)
-    chain-from-output.Pre
+abbrev output-at : ℕ → In 2 chain-from-output-kinds.ps
+output-at t = and 2 chain-from-output-kinds.ps (is 2 chain-from-output-kinds.ps μ-output t) chain-from-output.Pre
 
-abbrev chain-from-output-below : ℕ → In 2 chain-from-output-kinds.ps
-chain-from-output-below t =
-    and
-    2
-    chain-from-output-kinds.ps
-    (falls 2 chain-from-output-kinds.ps _<_ μ-chain-from-output t)
-    chain-from-output.Pre
+abbrev output-below : ℕ → In 2 chain-from-output-kinds.ps
+output-below t = and 2 chain-from-output-kinds.ps (falls 2 chain-from-output-kinds.ps _<_ μ-output t) chain-from-output.Pre
 
-chain-from-input-returns : (t : ℕ) → chain-from-input-lts.Need-returns (
-  row-on-reads.Asked,
-  row-on-reads.Learnt,
-  module-at-reads.Asked,
-  module-at-reads.Learnt,
-  chain-from-output-below t,
+-- ---- from the input module
+
+abbrev input-claims : ℕ → chain-from-input-lts.Claims
+input-claims t = (
+  row-beside-reads.Asked,
+  row-beside-reads.Learnt,
+  central-at-reads.Asked,
+  central-at-reads.Learnt,
+  change-reads.Asked,
+  change-reads.Learnt,
+  output-below t,
   chain-from-output.Post,
-) (chain-from-input-at t) chain-from-input.Post
-chain-from-input-returns t c = let s = c .before .before .before .args in walked-none (moduleOf (s .calls .now) false) (moduleOf (s .calls .now) true) (s .count) (s .«module») (s .c) (s .d) (s .left) (s .centrals .now) (c .if1 .taken) _ refl refl
+)
 
-chain-from-input-row-on-requires : (t : ℕ) → chain-from-input-lts.Need-row-on-requires (
-  row-on-reads.Asked,
-  row-on-reads.Learnt,
-  module-at-reads.Asked,
-  module-at-reads.Learnt,
-  chain-from-output-below t,
-  chain-from-output.Post,
-) (chain-from-input-at t) chain-from-input.Post
-chain-from-input-row-on-requires t c κs = omega arith
+-- the call beside, once it is found and the central of the row is read
+abbrev input-entry : (t : ℕ) → chain-from-input-lts.After-row-beside-arg (input-claims t) (input-at t) chain-from-input.Post → chain-from-input-lts.Start (input-claims t) (input-at t) chain-from-input.Post
+input-entry t c = c .before .before
 
-chain-from-input-same-length : (t : ℕ) → chain-from-input-lts.Need-same-length (
-  row-on-reads.Asked,
-  row-on-reads.Learnt,
-  module-at-reads.Asked,
-  module-at-reads.Learnt,
-  chain-from-output-below t,
-  chain-from-output.Post,
-) (chain-from-input-at t) chain-from-input.Post
-chain-from-input-same-length t c = refl
+input-held : (t : ℕ) (c : chain-from-input-lts.Start (input-claims t) (input-at t) chain-from-input.Post) → 3 * c .args .from + 3 ≤ length (c .args .rows .now)
+input-held t c = omega (arith, c .pre .1 .whole, c .pre .1 .row)
 
-chain-from-input-returns-2 : (t : ℕ) → chain-from-input-lts.Need-returns-2 (
-  row-on-reads.Asked,
-  row-on-reads.Learnt,
-  module-at-reads.Asked,
-  module-at-reads.Learnt,
-  chain-from-output-below t,
-  chain-from-output.Post,
-) (chain-from-input-at t) chain-from-input.Post
-chain-from-input-returns-2 t c = let s = c .before .before .before .before .before .before .args in walked-end (moduleOf (s .calls .now) false) (moduleOf (s .calls .now) true) (s .count) (s .«module») (s .c) (s .d) (s .left) (s .centrals .now) _ (c .before .row-on .ensures .1) (c .if2 .taken) _ refl refl
+abbrev input-found : (t : ℕ) → chain-from-input-lts.After-central-at (input-claims t) (input-at t) chain-from-input.Post → chain-from-input-lts.After-row-beside (input-claims t) (input-at t) chain-from-input.Post
+input-found t c = c .before .before .before
 
-chain-from-input-module-at-requires : (t : ℕ) → chain-from-input-lts.Need-module-at-requires (
-  row-on-reads.Asked,
-  row-on-reads.Learnt,
-  module-at-reads.Asked,
-  module-at-reads.Learnt,
-  chain-from-output-below t,
-  chain-from-output.Post,
-) (chain-from-input-at t) chain-from-input.Post
-chain-from-input-module-at-requires t c κs = omega arith
+input-stepping : (t : ℕ) (c : chain-from-input-lts.After-central-at (input-claims t) (input-at t) chain-from-input.Post) →
+    let found = input-found t c in
+    let s = input-entry t (found .before) .args in
+    Stepping false (s .rows .now) (s .from) (s .other) (s .left) (found .row-beside .result) (c .central-at .result)
+input-stepping t c = record {
+  searched = input-found t c .row-beside .ensures;
+  another = c .before .before .if1 .left;
+  read = c .central-at .ensures;
+  mendable = input-entry t (input-found t c .before) .pre .1;
+}
 
-chain-from-input-sub-chain-from-output : (t : ℕ) → chain-from-input-lts.Need-sub-chain-from-output (
-  row-on-reads.Asked,
-  row-on-reads.Learnt,
-  module-at-reads.Asked,
-  module-at-reads.Learnt,
-  chain-from-output-below t,
-  chain-from-output.Post,
-) (chain-from-input-at t) chain-from-input.Post
-chain-from-input-sub-chain-from-output t c = omega arith
+abbrev input-changed : (t : ℕ) → chain-from-input-lts.After-chain-from-output-arg2 (input-claims t) (input-at t) chain-from-input.Post → chain-from-input-lts.After-change (input-claims t) (input-at t) chain-from-input.Post
+input-changed t c = c .before .before .before .before
 
-chain-from-input-chain-from-output-requires :
-    (t : ℕ) → chain-from-input-lts.Need-chain-from-output-requires (
-      row-on-reads.Asked,
-      row-on-reads.Learnt,
-      module-at-reads.Asked,
-      module-at-reads.Learnt,
-      chain-from-output-below t,
-      chain-from-output.Post,
-    ) (chain-from-input-at t) chain-from-input.Post
-chain-from-input-chain-from-output-requires t c κs = omega arith
+abbrev input-read : (t : ℕ) → chain-from-input-lts.After-change (input-claims t) (input-at t) chain-from-input.Post → chain-from-input-lts.After-central-at (input-claims t) (input-at t) chain-from-input.Post
+input-read t c = c .before .before .before
 
-chain-from-input-slice-write-centrals : (t : ℕ) → chain-from-input-lts.Need-slice-write-centrals (
-  row-on-reads.Asked,
-  row-on-reads.Learnt,
-  module-at-reads.Asked,
-  module-at-reads.Learnt,
-  chain-from-output-below t,
-  chain-from-output.Post,
-) (chain-from-input-at t) chain-from-input.Post
-chain-from-input-slice-write-centrals t c = omega arith
+input-requires : (t : ℕ) → chain-from-input-lts.Need-chain-from-output-requires (input-claims t) (input-at t) chain-from-input.Post
+input-requires t c κs =
+    let changed = input-changed t c in
+    let read = input-read t changed in
+    let on = input-stepping t read in
+    (omega (arith, input-entry t (input-found t read .before) .pre .0, some-left on), rw (changed .change .ensures .0) (mendable-on on))
 
-chain-from-input-add-t16 : (t : ℕ) → chain-from-input-lts.Need-add-t16 (
-  row-on-reads.Asked,
-  row-on-reads.Learnt,
-  module-at-reads.Asked,
-  module-at-reads.Learnt,
-  chain-from-output-below t,
-  chain-from-output.Post,
-) (chain-from-input-at t) chain-from-input.Post
-chain-from-input-add-t16 t c = omega (arith, walked-few (c .before .before .before .chain-from-output .ensures), c .before .before .before .before .before .before .before .before .before .before .before .before .fits .left, c .before .before .before .before .before .before .before .before .before .if1 .left)
+input-goes-on : (t : ℕ) → chain-from-input-lts.Need-returns-2 (input-claims t) (input-at t) chain-from-input.Post
+input-goes-on t c =
+    let changed = input-changed t (c .before .before .before) in
+    mended-on (input-stepping t (input-read t changed)) (changed .change .ensures .0) (changed .change .ensures .1) (c .before .before .chain-from-output .ensures)
 
-chain-from-input-same-length-2 : (t : ℕ) → chain-from-input-lts.Need-same-length-2 (
-  row-on-reads.Asked,
-  row-on-reads.Learnt,
-  module-at-reads.Asked,
-  module-at-reads.Learnt,
-  chain-from-output-below t,
-  chain-from-output.Post,
-) (chain-from-input-at t) chain-from-input.Post
-chain-from-input-same-length-2 t c = length-set (c .before .before .before .chain-from-output .last .1 .0) (c .before .before .before .before .before .before .before .row-on .result) (c .before .before .before .before .before .before .before .before .before .before .before .before .args .d) ∙ c .before .before .before .chain-from-output .kept .1 .0
+-- ---- from the output module
 
-chain-from-input-returns-3 : (t : ℕ) → chain-from-input-lts.Need-returns-3 (
-  row-on-reads.Asked,
-  row-on-reads.Learnt,
-  module-at-reads.Asked,
-  module-at-reads.Learnt,
-  chain-from-output-below t,
-  chain-from-output.Post,
-) (chain-from-input-at t) chain-from-input.Post
-chain-from-input-returns-3 t c = let s = c .before .before .before .before .before .before .before .before .before .before .before .before .args in walked-on (moduleOf (s .calls .now) false) (moduleOf (s .calls .now) true) (s .count) (s .«module») (s .c) (s .d) (s .left) (s .centrals .now) _ _ _ (c .before .before .before .chain-from-output .result) _ (c .before .before .before .before .before .before .before .before .before .if1 .left) (c .before .before .before .before .before .before .before .row-on .ensures .1) (c .before .before .before .before .before .before .if2 .left) (c .before .before .before .before .before .module-at .ensures) (c .before .before .before .chain-from-output .ensures) refl refl
-
-chain-from-output-returns : (t : ℕ) → chain-from-output-lts.Need-returns (
-  row-on-reads.Asked,
-  row-on-reads.Learnt,
-  module-at-reads.Asked,
-  module-at-reads.Learnt,
-  chain-from-input-below t,
+abbrev output-claims : ℕ → chain-from-output-lts.Claims
+output-claims t = (
+  row-beside-reads.Asked,
+  row-beside-reads.Learnt,
+  central-at-reads.Asked,
+  central-at-reads.Learnt,
+  change-reads.Asked,
+  change-reads.Learnt,
+  input-below t,
   chain-from-input.Post,
-) (chain-from-output-at t) chain-from-output.Post
-chain-from-output-returns t c = let s = c .before .before .before .args in walked-none (moduleOf (s .calls .now) true) (moduleOf (s .calls .now) false) (s .count) (s .«module») (s .c) (s .d) (s .left) (s .centrals .now) (c .if1 .taken) _ refl refl
+)
 
-chain-from-output-row-on-requires : (t : ℕ) → chain-from-output-lts.Need-row-on-requires (
-  row-on-reads.Asked,
-  row-on-reads.Learnt,
-  module-at-reads.Asked,
-  module-at-reads.Learnt,
-  chain-from-input-below t,
-  chain-from-input.Post,
-) (chain-from-output-at t) chain-from-output.Post
-chain-from-output-row-on-requires t c κs = omega arith
+-- the call beside, once it is found and the central of the row is read
+abbrev output-entry : (t : ℕ) → chain-from-output-lts.After-row-beside-arg (output-claims t) (output-at t) chain-from-output.Post → chain-from-output-lts.Start (output-claims t) (output-at t) chain-from-output.Post
+output-entry t c = c .before .before
 
-chain-from-output-same-length : (t : ℕ) → chain-from-output-lts.Need-same-length (
-  row-on-reads.Asked,
-  row-on-reads.Learnt,
-  module-at-reads.Asked,
-  module-at-reads.Learnt,
-  chain-from-input-below t,
-  chain-from-input.Post,
-) (chain-from-output-at t) chain-from-output.Post
-chain-from-output-same-length t c = refl
+output-held : (t : ℕ) (c : chain-from-output-lts.Start (output-claims t) (output-at t) chain-from-output.Post) → 3 * c .args .from + 3 ≤ length (c .args .rows .now)
+output-held t c = omega (arith, c .pre .1 .whole, c .pre .1 .row)
 
-chain-from-output-returns-2 : (t : ℕ) → chain-from-output-lts.Need-returns-2 (
-  row-on-reads.Asked,
-  row-on-reads.Learnt,
-  module-at-reads.Asked,
-  module-at-reads.Learnt,
-  chain-from-input-below t,
-  chain-from-input.Post,
-) (chain-from-output-at t) chain-from-output.Post
-chain-from-output-returns-2 t c = let s = c .before .before .before .before .before .before .args in walked-end (moduleOf (s .calls .now) true) (moduleOf (s .calls .now) false) (s .count) (s .«module») (s .c) (s .d) (s .left) (s .centrals .now) _ (c .before .row-on .ensures .1) (c .if2 .taken) _ refl refl
+abbrev output-found : (t : ℕ) → chain-from-output-lts.After-central-at (output-claims t) (output-at t) chain-from-output.Post → chain-from-output-lts.After-row-beside (output-claims t) (output-at t) chain-from-output.Post
+output-found t c = c .before .before .before
 
-chain-from-output-module-at-requires : (t : ℕ) → chain-from-output-lts.Need-module-at-requires (
-  row-on-reads.Asked,
-  row-on-reads.Learnt,
-  module-at-reads.Asked,
-  module-at-reads.Learnt,
-  chain-from-input-below t,
-  chain-from-input.Post,
-) (chain-from-output-at t) chain-from-output.Post
-chain-from-output-module-at-requires t c κs = omega arith
+output-stepping : (t : ℕ) (c : chain-from-output-lts.After-central-at (output-claims t) (output-at t) chain-from-output.Post) →
+    let found = output-found t c in
+    let s = output-entry t (found .before) .args in
+    Stepping true (s .rows .now) (s .from) (s .other) (s .left) (found .row-beside .result) (c .central-at .result)
+output-stepping t c = record {
+  searched = output-found t c .row-beside .ensures;
+  another = c .before .before .if1 .left;
+  read = c .central-at .ensures;
+  mendable = output-entry t (output-found t c .before) .pre .1;
+}
 
-chain-from-output-sub-chain-from-input : (t : ℕ) → chain-from-output-lts.Need-sub-chain-from-input (
-  row-on-reads.Asked,
-  row-on-reads.Learnt,
-  module-at-reads.Asked,
-  module-at-reads.Learnt,
-  chain-from-input-below t,
-  chain-from-input.Post,
-) (chain-from-output-at t) chain-from-output.Post
-chain-from-output-sub-chain-from-input t c = omega arith
+abbrev output-changed : (t : ℕ) → chain-from-output-lts.After-chain-from-input-arg2 (output-claims t) (output-at t) chain-from-output.Post → chain-from-output-lts.After-change (output-claims t) (output-at t) chain-from-output.Post
+output-changed t c = c .before .before .before .before
 
-chain-from-output-chain-from-input-requires :
-    (t : ℕ) → chain-from-output-lts.Need-chain-from-input-requires (
-      row-on-reads.Asked,
-      row-on-reads.Learnt,
-      module-at-reads.Asked,
-      module-at-reads.Learnt,
-      chain-from-input-below t,
-      chain-from-input.Post,
-    ) (chain-from-output-at t) chain-from-output.Post
-chain-from-output-chain-from-input-requires t c κs = omega arith
+abbrev output-read : (t : ℕ) → chain-from-output-lts.After-change (output-claims t) (output-at t) chain-from-output.Post → chain-from-output-lts.After-central-at (output-claims t) (output-at t) chain-from-output.Post
+output-read t c = c .before .before .before
 
-chain-from-output-slice-write-centrals : (t : ℕ) → chain-from-output-lts.Need-slice-write-centrals (
-  row-on-reads.Asked,
-  row-on-reads.Learnt,
-  module-at-reads.Asked,
-  module-at-reads.Learnt,
-  chain-from-input-below t,
-  chain-from-input.Post,
-) (chain-from-output-at t) chain-from-output.Post
-chain-from-output-slice-write-centrals t c = omega arith
+output-requires : (t : ℕ) → chain-from-output-lts.Need-chain-from-input-requires (output-claims t) (output-at t) chain-from-output.Post
+output-requires t c κs =
+    let changed = output-changed t c in
+    let read = output-read t changed in
+    let on = output-stepping t read in
+    (omega (arith, output-entry t (output-found t read .before) .pre .0, some-left on), rw (changed .change .ensures .0) (mendable-on on))
 
-chain-from-output-add-t16 : (t : ℕ) → chain-from-output-lts.Need-add-t16 (
-  row-on-reads.Asked,
-  row-on-reads.Learnt,
-  module-at-reads.Asked,
-  module-at-reads.Learnt,
-  chain-from-input-below t,
-  chain-from-input.Post,
-) (chain-from-output-at t) chain-from-output.Post
-chain-from-output-add-t16 t c = omega (arith, walked-few (c .before .before .before .chain-from-input .ensures), c .before .before .before .before .before .before .before .before .before .before .before .before .fits .left, c .before .before .before .before .before .before .before .before .before .if1 .left)
-
-chain-from-output-same-length-2 : (t : ℕ) → chain-from-output-lts.Need-same-length-2 (
-  row-on-reads.Asked,
-  row-on-reads.Learnt,
-  module-at-reads.Asked,
-  module-at-reads.Learnt,
-  chain-from-input-below t,
-  chain-from-input.Post,
-) (chain-from-output-at t) chain-from-output.Post
-chain-from-output-same-length-2 t c = length-set (c .before .before .before .chain-from-input .last .1 .0) (c .before .before .before .before .before .before .before .row-on .result) (c .before .before .before .before .before .before .before .before .before .before .before .before .args .d) ∙ c .before .before .before .chain-from-input .kept .1 .0
-
-chain-from-output-returns-3 : (t : ℕ) → chain-from-output-lts.Need-returns-3 (
-  row-on-reads.Asked,
-  row-on-reads.Learnt,
-  module-at-reads.Asked,
-  module-at-reads.Learnt,
-  chain-from-input-below t,
-  chain-from-input.Post,
-) (chain-from-output-at t) chain-from-output.Post
-chain-from-output-returns-3 t c = let s = c .before .before .before .before .before .before .before .before .before .before .before .before .args in walked-on (moduleOf (s .calls .now) true) (moduleOf (s .calls .now) false) (s .count) (s .«module») (s .c) (s .d) (s .left) (s .centrals .now) _ _ _ (c .before .before .before .chain-from-input .result) _ (c .before .before .before .before .before .before .before .before .before .if1 .left) (c .before .before .before .before .before .before .before .row-on .ensures .1) (c .before .before .before .before .before .before .if2 .left) (c .before .before .before .before .before .module-at .ensures) (c .before .before .before .chain-from-input .ensures) refl refl
+output-goes-on : (t : ℕ) → chain-from-output-lts.Need-returns-2 (output-claims t) (output-at t) chain-from-output.Post
+output-goes-on t c =
+    let changed = output-changed t (c .before .before .before) in
+    mended-on (output-stepping t (output-read t changed)) (changed .change .ensures .0) (changed .change .ensures .1) (c .before .before .chain-from-input .ensures)
 
 pub +chain-from-input+chain-from-output-spec : {M : Type 1} → statement M
 +chain-from-input+chain-from-output-spec =
-    close μ-chain-from-input μ-chain-from-output (λ t. chain-from-input-lts.spec (
-      row-on-reads.Asked,
-      row-on-reads.Learnt,
-      module-at-reads.Asked,
-      module-at-reads.Learnt,
-      chain-from-output-below t,
-      chain-from-output.Post,
-    )
-    (chain-from-input-at t)
-    chain-from-input.Post
-    (chain-from-input-returns t)
-    (chain-from-input-row-on-requires t)
-    (chain-from-input-same-length t)
-    (chain-from-input-returns-2 t)
-    (chain-from-input-module-at-requires t)
-    (chain-from-input-sub-chain-from-output t)
-    (chain-from-input-chain-from-output-requires t)
-    (chain-from-input-slice-write-centrals t)
-    (chain-from-input-add-t16 t)
-    (chain-from-input-same-length-2 t)
-    (chain-from-input-returns-3 t))
-    λ t. chain-from-output-lts.spec (
-      row-on-reads.Asked,
-      row-on-reads.Learnt,
-      module-at-reads.Asked,
-      module-at-reads.Learnt,
-      chain-from-input-below t,
-      chain-from-input.Post,
-    )
-    (chain-from-output-at t)
-    chain-from-output.Post
-    (chain-from-output-returns t)
-    (chain-from-output-row-on-requires t)
-    (chain-from-output-same-length t)
-    (chain-from-output-returns-2 t)
-    (chain-from-output-module-at-requires t)
-    (chain-from-output-sub-chain-from-input t)
-    (chain-from-output-chain-from-input-requires t)
-    (chain-from-output-slice-write-centrals t)
-    (chain-from-output-add-t16 t)
-    (chain-from-output-same-length-2 t)
-    (chain-from-output-returns-3 t)
+    close μ-input μ-output
+    (λ t. chain-from-input-lts.spec (input-claims t) (input-at t) chain-from-input.Post
+    (λ c κs. input-held t (input-entry t c))
+    (λ c. refl)
+    (λ c. mended-end false _ _ _ _ _ (c .before .row-beside .ensures) (c .if1 .taken))
+    (λ c κs. input-held t (input-entry t (c .before .before .before)))
+    (λ c. some-left (input-stepping t (c .before .before)))
+    (λ c κs. change-room (input-stepping t (c .before .before)))
+    (λ c. some-left (input-stepping t (input-read t (input-changed t c))))
+    (input-requires t)
+    (λ c. c .before .before .chain-from-output .kept .0 ∙ input-changed t (c .before .before .before) .change .kept .0)
+    (input-goes-on t))
+    (λ t. chain-from-output-lts.spec (output-claims t) (output-at t) chain-from-output.Post
+    (λ c κs. output-held t (output-entry t c))
+    (λ c. refl)
+    (λ c. mended-end true _ _ _ _ _ (c .before .row-beside .ensures) (c .if1 .taken))
+    (λ c κs. output-held t (output-entry t (c .before .before .before)))
+    (λ c. some-left (output-stepping t (c .before .before)))
+    (λ c κs. change-room (output-stepping t (c .before .before)))
+    (λ c. some-left (output-stepping t (output-read t (output-changed t c))))
+    (output-requires t)
+    (λ c. c .before .before .chain-from-input .kept .0 ∙ output-changed t (c .before .before .before) .change .kept .0)
+    (output-goes-on t))

@@ -1,16 +1,13 @@
 -- `choice::is_free` meets its contract: the byte of the slot says it.
 use native.Mathlib.Omega.{arith}
 use Rattle.shelf.specs.Network.{mostModules, mostCentrals}
-use Rattle.choice.specs.Record.{places, recordSize, inUse}
+use Rattle.choice.specs.Record.{modulesOfBoth, recordSize, inUse}
 use borrow.Author.Needs.{needs}
 use Rattle.choice.proofs.is_free.Statement.{statement}
 use Rattle.choice.proofs.is_free.Tie as tie
 
-slot-requires : tie.Need-slot-requires
-slot-requires c κs = search needs
-
 element-copy-out-result : tie.Need-element-copy-out-result
-unfolding recordSize places mostModules mostCentrals
+unfolding recordSize modulesOfBoth mostModules mostCentrals
 element-copy-out-result c = omega arith
 
 returns : tie.Need-returns
@@ -18,4 +15,4 @@ unfolding inUse
 returns c = rw (c .before .slot .ensures .0)
 
 pub is-free-spec : {M : Type 1} → statement M
-is-free-spec = tie.close (tie.spec slot-requires element-copy-out-result returns)
+is-free-spec = tie.close (tie.spec (λ c κs. search needs) element-copy-out-result returns)

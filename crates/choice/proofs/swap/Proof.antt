@@ -1,31 +1,25 @@
 -- `choice::swap` meets its contract: two bytes change places.
 use native.Mathlib.Omega.{arith}
 use Rattle.shelf.specs.Network.{mostModules, mostCentrals}
-use Rattle.choice.specs.Record.{places, recordSize, swapping}
+use Rattle.choice.specs.Record.{modulesOfBoth, recordSize, swapping}
 use borrow.Author.Needs.{needs}
 use Rattle.choice.proofs.swap.Statement.{statement}
 use Rattle.choice.proofs.swap.Tie as tie
 
-slot-requires : tie.Need-slot-requires
-slot-requires c κs = search needs
-
-slot-requires-2 : tie.Need-slot-requires-2
-slot-requires-2 c κs = search needs
-
 element-copy-out-kept : tie.Need-element-copy-out-kept
-unfolding recordSize places mostModules mostCentrals
+unfolding recordSize modulesOfBoth mostModules mostCentrals
 element-copy-out-kept c = omega arith
 
 element-copy-out-used : tie.Need-element-copy-out-used
-unfolding recordSize places mostModules mostCentrals
+unfolding recordSize modulesOfBoth mostModules mostCentrals
 element-copy-out-used c = omega arith
 
 element-write-used : tie.Need-element-write-used
-unfolding recordSize places mostModules mostCentrals
+unfolding recordSize modulesOfBoth mostModules mostCentrals
 element-write-used c = omega arith
 
 element-write-used-2 : tie.Need-element-write-used-2
-unfolding recordSize places mostModules mostCentrals
+unfolding recordSize modulesOfBoth mostModules mostCentrals
 element-write-used-2 c = omega arith
 
 returns : tie.Need-returns
@@ -35,11 +29,5 @@ returns c = rw (c .before .before .slot2 .ensures .0, c .before .before .before 
 pub swap-spec : {M : Type 1} → statement M
 swap-spec =
     tie.close
-    (tie.spec
-    slot-requires
-    slot-requires-2
-    element-copy-out-kept
-    element-copy-out-used
-    element-write-used
-    element-write-used-2
+    (tie.spec (λ c κs. search needs) (λ c κs. search needs) element-copy-out-kept element-copy-out-used element-write-used element-write-used-2
     returns)

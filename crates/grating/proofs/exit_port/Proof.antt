@@ -9,12 +9,6 @@ use Rattle.grating.specs.Grating.{exitPort, remainder}
 use Rattle.grating.proofs.exit_port.Statement.{statement}
 use Rattle.grating.proofs.exit_port.Tie as tie
 
-sub-result : tie.Need-sub-result
-sub-result c = search needs
-
-sub-result-2 : tie.Need-sub-result-2
-sub-result-2 c = search needs
-
 returns : tie.Need-returns
 unfolding exitPort remainder
 returns c = rw (le-ltb _ _ (c .if1 .taken)) (sym (mod-eq-of-lt (omega arith)))
@@ -24,4 +18,4 @@ unfolding exitPort remainder
 returns-2 c = rw (lt-ltb _ _ (c .if1 .left)) (omega (arith, mod-eq-of-lt {n = c .before .args .entry - suc (c .before .args .wavelength)} {m = c .before .args .cycle} (omega arith)))
 
 pub exit-port-spec : {M : Type 1} → statement M
-exit-port-spec = tie.close (tie.spec sub-result sub-result-2 returns returns-2)
+exit-port-spec = tie.close (tie.spec (λ c. search needs) (λ c. search needs) returns returns-2)

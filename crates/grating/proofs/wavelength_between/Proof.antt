@@ -7,12 +7,6 @@ use Rattle.grating.specs.Grating.{wavelengthBetween, remainder}
 use Rattle.grating.proofs.wavelength_between.Statement.{statement}
 use Rattle.grating.proofs.wavelength_between.Tie as tie
 
-sub-room : tie.Need-sub-room
-sub-room c = search needs
-
-add-result : tie.Need-add-result
-add-result c = search needs
-
 returns : tie.Need-returns
 unfolding wavelengthBetween remainder
 returns c = sym (mod-eq-of-lt (omega arith))
@@ -22,4 +16,4 @@ unfolding wavelengthBetween remainder
 returns-2 c = sym (mod-eq-sub-mod (omega arith) ∙ mod-eq-of-lt (omega arith) ∙ omega arith)
 
 pub wavelength-between-spec : {M : Type 1} → statement M
-wavelength-between-spec = tie.close (tie.spec sub-room add-result returns returns-2)
+wavelength-between-spec = tie.close (tie.spec (λ c. search needs) (λ c. search needs) returns returns-2)

@@ -3,15 +3,15 @@ use mathlib.Core.Path.{sym}
 use native.Mathlib.Omega.{arith}
 use lib.ListN.{length-append}
 use borrow.Author.Needs.{needs}
+use Rattle.ground.specs.BytesLaws.{adds-both, adds-same, adds-length}
 use Rattle.lines.specs.TextLaws.{decimal-one, decimal-more}
-use Rattle.lines.specs.Writing.{adds-both, adds-same, adds-length}
 use Prim.Native.Nat.{ℕ, _<_}
 use borrow.Fn.Kinds.{In}
 use borrow.Fn.PlainCycle.{Measures, is, falls, and}
 use Rattle.lines.proofs.write_number.Reads as write-number
 use Rattle.lines.proofs.write_number.Kinds as write-number-kinds
 use Rattle.lines.proofs.+write_number.Lts-write_number as write-number-lts
-use Rattle.lines.proofs.write_byte.Reads as write-byte-reads
+use Rattle.ground.proofs.write_byte.Reads as write-byte-reads
 use Rattle.lines.proofs.+write_number.{statement}
 use Rattle.lines.proofs.+write_number.Tie.{close}
 

@@ -9,14 +9,14 @@ use Rattle.lines.specs.Listing.{long-listing, told-listing, lists}
 use Rattle.lines.proofs.list.Statement.{statement}
 use Rattle.lines.proofs.list.Tie as tie
 
-slice-aggregate-write-word : tie.Need-slice-aggregate-write-word
-slice-aggregate-write-word c = search needs
+slice-aggregate-write-bytes : tie.Need-slice-aggregate-write-bytes
+slice-aggregate-write-bytes c = search needs
 
-write-word-requires : tie.Need-write-word-requires
-write-word-requires c κs = search needs
+write-bytes-requires : tie.Need-write-bytes-requires
+write-bytes-requires c κs = search needs
 
 returns : tie.Need-returns
-returns c = lists (c .write-word .ensures) (sym too-long-is ∙ long-listing _ (rw longest-is (c .before .before .before .if1 .taken)))
+returns c = lists (c .write-bytes .ensures) (sym too-long-is ∙ long-listing _ (rw longest-is (c .before .before .before .if1 .taken)))
 
 list-told-requires : tie.Need-list-told-requires
 unfolding longestListing mostFirstLine mostRowLine mostSizes byteDigits rowDigits numberDigits mostCalls
@@ -28,4 +28,4 @@ returns-2 c = lists (c .list-told .ensures) (told-listing _ (rw longest-is (c .b
 pub list-spec : {M : Type 1} → statement M
 list-spec =
     tie.close
-    (tie.spec slice-aggregate-write-word write-word-requires returns list-told-requires returns-2)
+    (tie.spec slice-aggregate-write-bytes write-bytes-requires returns list-told-requires returns-2)

@@ -4,38 +4,42 @@ use Prim.Native.Nat.{_≤_}
 use native.Mathlib.Omega.{arith}
 use lib.ListN.{length}
 use borrow.Author.Needs.{needs}
+use Rattle.ground.specs.BytesLaws.{adds-both, adds-same, adds-length}
 use Rattle.shelf.specs.Rows.{rowCount}
-use Rattle.lines.specs.TextLaws.{planned-text-is}
-use Rattle.lines.specs.Writing.{numberDigits, mostSizes, mostFirstLine, longestListing, listing-room, first-line-room, adds-both, adds-same, adds-length}
+use Rattle.lines.specs.TextLaws.{planned-text-is, listing-room, first-line-room}
+use Rattle.lines.specs.Writing.{numberDigits, mostSizes, mostFirstLine, longestListing}
 use Rattle.lines.proofs.list_accepted.Statement.{statement}
 use Rattle.lines.proofs.list_accepted.Tie as tie
 
-abbrev to-start : tie.After-write-sizes → tie.Start
-to-start c = c .before .before .before .before .before
+abbrev To-start : tie.After-write-sizes → tie.Start
+To-start c = c .before .before .before .before .before
+
+abbrev To-sizes : tie.After-write-bytes → tie.After-write-sizes
+To-sizes c = c .before .before .before .before .before
 
 -- where the sizes end, and the room that is left behind them
 after-sizes : (c : tie.After-write-sizes) → (c .write-sizes .result ≤ mostSizes) × (longestListing ≤ length (c .write-sizes .last .0))
 after-sizes c =
     let text = c .write-sizes .ensures .0 in
-    (c .write-sizes .ensures .1, omega (arith, adds-length text, to-start c .pre .0))
+    (c .write-sizes .ensures .1, omega (arith, adds-length text, To-start c .pre .0))
 
 write-sizes-requires : tie.Need-write-sizes-requires
 write-sizes-requires c κs = omega (arith, first-line-room, c .before .before .before .before .pre .0)
 
-slice-aggregate-write-word : tie.Need-slice-aggregate-write-word
-slice-aggregate-write-word c = search needs
+slice-aggregate-write-bytes : tie.Need-slice-aggregate-write-bytes
+slice-aggregate-write-bytes c = search needs
 
-write-word-requires : tie.Need-write-word-requires
+write-bytes-requires : tie.Need-write-bytes-requires
 unfolding mostFirstLine numberDigits
-write-word-requires c κs = let sizes = c .before .before .before .before in omega (arith, first-line-room, after-sizes sizes)
+write-bytes-requires c κs = let sizes = c .before .before .before .before in omega (arith, first-line-room, after-sizes sizes)
 
 write-rows-requires : tie.Need-write-rows-requires
 unfolding mostFirstLine numberDigits
 write-rows-requires c κs =
     let word = c .before .before .before in
-    let sizes = word .before .before .before .before .before in
-    let rows = to-start sizes .pre .1 in
-    let text = word .write-word .ensures in
+    let sizes = To-sizes word in
+    let rows = To-start sizes .pre .1 in
+    let text = word .write-bytes .ensures in
     (omega (arith, listing-room _ (rows .few), text .is-next, adds-length text, after-sizes sizes), rows)
 
 same-length : tie.Need-same-length
@@ -46,8 +50,8 @@ unfolding rowCount
 returns c =
     let rows = c .before .before in
     let word = rows .before .before .before .before in
-    let sizes = word .before .before .before .before .before in
-    let first = adds-both (sizes .write-sizes .ensures .0) (word .write-word .ensures) in
+    let sizes = To-sizes word in
+    let first = adds-both (sizes .write-sizes .ensures .0) (word .write-bytes .ensures) in
     adds-same (adds-both first (rows .write-rows .ensures)) (sym (planned-text-is _ _ _))
 
 pub list-accepted-spec : {M : Type 1} → statement M
@@ -55,8 +59,8 @@ list-accepted-spec =
     tie.close
     (tie.spec
     write-sizes-requires
-    slice-aggregate-write-word
-    write-word-requires
+    slice-aggregate-write-bytes
+    write-bytes-requires
     write-rows-requires
     same-length
     returns)

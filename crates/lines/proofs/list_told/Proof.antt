@@ -3,23 +3,37 @@
 use native.Mathlib.Omega.{arith}
 use denote.Ref.{now}
 use borrow.Author.Needs.{needs}
+use Rattle.ground.specs.Bytes.{part}
+use Rattle.ground.specs.BytesLaws.{adds-same}
 use Rattle.shelf.specs.Network.{mostCalls}
-use Rattle.planfile.specs.File.{planned, part}
+use Rattle.planfile.specs.File.{planned}
 use Rattle.planfile.specs.Reader.{callsIn, settingsIn, netOf}
-use Rattle.lines.specs.Writing.{first-line-room, adds-same}
 use Rattle.lines.specs.Listing.{Held, held, told-refused, calls-few, planned-rows, told-planned, told-calls}
+use Rattle.lines.specs.TextLaws.{first-line-room}
 use Rattle.lines.proofs.list_told.Statement.{statement}
 use Rattle.lines.proofs.list_told.Tie as tie
 
--- what is told of a file that is not refused
-holds : (c : tie.Else1) → Held (now (c .before .before .before .before .before .args .file)) (c .before .before .read .result)
-holds c = held _ _ (c .before .before .read .ensures .answer) (c .if1 .left)
+-- the stations: the reader's answer, and past its refusal the two kinds of file; what is told of a file that is not refused
+abbrev To-start : tie.After-read → tie.Start
+To-start c = c .before .before .before
+
+abbrev To-read : tie.Else1 → tie.After-read
+To-read c = c .before .before
+
+abbrev To-planned : tie.Then2 → tie.Else1
+To-planned c = c .before .before
+
+abbrev To-calls : tie.Else2 → tie.Else1
+To-calls c = c .before .before
+
+holds : (c : tie.Else1) → Held (now (To-start (To-read c) .args .file)) (To-read c .read .result)
+holds c = held _ _ (To-read c .read .ensures .answer) (c .if1 .left)
 
 read-requires : tie.Need-read-requires
 read-requires c κs = search needs
 
 write-refusal-requires : tie.Need-write-refusal-requires
-write-refusal-requires c κs = omega (arith, first-line-room, c .before .before .before .before .before .before .pre)
+write-refusal-requires c κs = omega (arith, first-line-room, To-start (c .before .before .before) .pre)
 
 same-length : tie.Need-same-length
 same-length c = search needs
@@ -32,20 +46,20 @@ returns c =
 
 mul-end : tie.Need-mul-end
 unfolding mostCalls
-mul-end c = omega (arith, holds (c .before .before .before) .few)
+mul-end c = omega (arith, holds (To-planned (c .before)) .few)
 
 add-end : tie.Need-add-end
 unfolding planned
-add-end c = let h = holds (c .before .before .before) in omega (arith, h .settings-end (c .before .if2 .taken), h .inside)
+add-end c = let h = holds (To-planned (c .before)) in omega (arith, h .settings-end (c .before .if2 .taken), h .inside)
 
 sub-list-accepted : tie.Need-sub-list-accepted
-sub-list-accepted c = omega (arith, holds (c .before .before .before) .calls-end)
+sub-list-accepted c = omega (arith, holds (To-planned (c .before)) .calls-end)
 
 part-list-accepted-start : tie.Need-part-list-accepted-start
-part-list-accepted-start c = omega (arith, holds (c .before .before .before) .calls-end)
+part-list-accepted-start c = omega (arith, holds (To-planned (c .before)) .calls-end)
 
 part-list-accepted-end : tie.Need-part-list-accepted-end
-part-list-accepted-end c = let h = holds (c .before .before .before) in omega (arith, h .settings-inside, h .inside)
+part-list-accepted-end c = let h = holds (To-planned (c .before)) in omega (arith, h .settings-inside, h .inside)
 
 sub-list-accepted-2 : tie.Need-sub-list-accepted-2
 sub-list-accepted-2 c = search needs
@@ -56,18 +70,18 @@ part-list-accepted-start-2 c = search needs
 part-list-accepted-end-2 : tie.Need-part-list-accepted-end-2
 unfolding planned
 part-list-accepted-end-2 c =
-    let left = c .before .before .before .before in
-    let h = holds left in
-    omega (arith, h .settings-end (c .before .before .if2 .taken), h .inside)
+    let then = c .before .before in
+    let h = holds (To-planned then) in
+    omega (arith, h .settings-end (then .if2 .taken), h .inside)
 
 list-accepted-requires : tie.Need-list-accepted-requires
 unfolding callsIn settingsIn part planned
 list-accepted-requires c κs =
     let then = c .before .before .before .before in
-    let left = then .before .before in
-    let read = left .before .before in
+    let left = To-planned then in
+    let read = To-read left in
     let rows = planned-rows _ _ (read .read .ensures .answer) (left .if1 .left) (then .if2 .taken) in
-    (read .before .before .before .pre, rw (holds left .settings-end (then .if2 .taken)) rows)
+    (To-start read .pre, rw (holds left .settings-end (then .if2 .taken)) rows)
 
 same-length-2 : tie.Need-same-length-2
 same-length-2 c = search needs
@@ -77,26 +91,26 @@ unfolding callsIn settingsIn netOf part planned
 returns-2 c =
     let listed = c .before .before in
     let then = listed .before .before .before .before .before in
-    let left = then .before .before in
-    let read = left .before .before in
+    let left = To-planned then in
+    let read = To-read left in
     let text = told-planned _ _ (read .read .ensures .answer) (left .if1 .left) (then .if2 .taken) in
     adds-same (listed .list-accepted .ensures) (rw (holds left .settings-end (then .if2 .taken)) text)
 
 sub-plan-and-list : tie.Need-sub-plan-and-list
-sub-plan-and-list c = omega (arith, holds (c .before .before) .calls-end)
+sub-plan-and-list c = omega (arith, holds (To-calls c) .calls-end)
 
 part-plan-and-list-start : tie.Need-part-plan-and-list-start
-part-plan-and-list-start c = omega (arith, holds (c .before .before) .calls-end)
+part-plan-and-list-start c = omega (arith, holds (To-calls c) .calls-end)
 
 part-plan-and-list-end : tie.Need-part-plan-and-list-end
-part-plan-and-list-end c = let h = holds (c .before .before) in omega (arith, h .settings-inside, h .inside)
+part-plan-and-list-end c = let h = holds (To-calls c) in omega (arith, h .settings-inside, h .inside)
 
 plan-and-list-requires : tie.Need-plan-and-list-requires
 unfolding callsIn part
 plan-and-list-requires c κs =
-    let left = c .before .before .before .before in
-    let read = left .before .before in
-    (read .before .before .before .pre, calls-few _ _ (read .read .ensures .answer) (left .if1 .left))
+    let left = To-calls (c .before .before) in
+    let read = To-read left in
+    (To-start read .pre, calls-few _ _ (read .read .ensures .answer) (left .if1 .left))
 
 same-length-3 : tie.Need-same-length-3
 same-length-3 c = search needs
@@ -106,8 +120,8 @@ unfolding callsIn netOf part planned
 returns-3 c =
     let listed = c .before .before in
     let other = listed .before .before .before in
-    let left = other .before .before in
-    let read = left .before .before in
+    let left = To-calls other in
+    let read = To-read left in
     adds-same (listed .plan-and-list .ensures) (told-calls _ _ (read .read .ensures .answer) (left .if1 .left) (other .if2 .left))
 
 pub list-told-spec : {M : Type 1} → statement M

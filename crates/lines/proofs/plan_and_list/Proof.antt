@@ -3,15 +3,16 @@ use mathlib.Core.Path.{refl}
 use native.Mathlib.Omega.{arith}
 use lib.ListN.{length-take}
 use borrow.Author.Needs.{needs}
+use Rattle.ground.specs.BytesLaws.{adds-same}
 use Rattle.shelf.specs.Network.{mostCalls}
 use Rattle.shelf.specs.Rows.{rowCount}
 use Rattle.lines.specs.Listing.{refused-calls, placed-rows, placed-calls}
-use Rattle.lines.specs.Writing.{first-line-room, adds-same}
+use Rattle.lines.specs.TextLaws.{first-line-room}
 use Rattle.lines.proofs.plan_and_list.Statement.{statement}
 use Rattle.lines.proofs.plan_and_list.Tie as tie
 
-abbrev to-start : tie.After-plan → tie.Start
-to-start c = c .before .before .before .before
+abbrev To-start : tie.After-plan → tie.Start
+To-start c = c .before .before .before .before
 
 slice-aggregate-plan : tie.Need-slice-aggregate-plan
 slice-aggregate-plan c = search needs
@@ -20,7 +21,7 @@ plan-requires : tie.Need-plan-requires
 plan-requires c κs = search needs
 
 write-refusal-requires : tie.Need-write-refusal-requires
-write-refusal-requires c κs = omega (arith, first-line-room, to-start (c .before .before .before .before) .pre .0)
+write-refusal-requires c κs = omega (arith, first-line-room, To-start (c .before .before .before .before) .pre .0)
 
 same-length : tie.Need-same-length
 same-length c = search needs
@@ -39,19 +40,19 @@ array-share-prefix-settings : tie.Need-array-share-prefix-settings
 unfolding rowCount mostCalls
 array-share-prefix-settings c =
     let planned = c .before .before .before in
-    omega (arith, to-start planned .pre .1, planned .plan .kept .1 .1 .0)
+    omega (arith, To-start planned .pre .1, planned .plan .kept .1 .1 .0)
 
 slice-aggregate-list-placed : tie.Need-slice-aggregate-list-placed
 unfolding rowCount mostCalls
 slice-aggregate-list-placed c =
     let planned = c .before .before .before .before in
-    simp length-take (omega (arith, to-start planned .pre .1, planned .plan .kept .1 .1 .0))
+    simp length-take (omega (arith, To-start planned .pre .1, planned .plan .kept .1 .1 .0))
 
 list-placed-requires : tie.Need-list-placed-requires
 unfolding rowCount mostCalls
 list-placed-requires c κs =
     let planned = c .before .before .before .before .before in
-    let start = to-start planned in
+    let start = To-start planned in
     (start .pre .0, placed-rows _ _ _ _ _ (planned .plan .ensures) refl (c .before .before .if1 .left) (start .pre .1))
 
 same-length-2 : tie.Need-same-length-2

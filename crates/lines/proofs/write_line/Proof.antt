@@ -1,7 +1,7 @@
 -- `lines::write_line` meets its contract: the numbers, the last one and the newline stand one behind the other.
 use borrow.Author.Needs.{needs}
+use Rattle.ground.specs.BytesLaws.{adds-both}
 use Rattle.lines.specs.Text.{newline}
-use Rattle.lines.specs.Writing.{adds-both}
 use Rattle.lines.proofs.write_line.Statement.{statement}
 use Rattle.lines.proofs.write_line.Tie as tie
 

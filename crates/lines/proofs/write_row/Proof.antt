@@ -1,17 +1,18 @@
 -- `lines::write_row` meets its contract: the numbers are those of the call row and the settings row.
 use native.Mathlib.Omega.{arith}
 use lib.ListN.{length-append}
+use Rattle.ground.specs.BytesLaws.{adds-same}
 use Rattle.lines.specs.TextLaws.{RowWidths, row-line-told, row-widths}
-use Rattle.lines.specs.Writing.{mostRowLine, spaced, adds-same}
+use Rattle.lines.specs.Writing.{mostRowLine, spaced}
 use borrow.Author.Needs.{needs}
 use Rattle.lines.proofs.write_row.Statement.{statement}
 use Rattle.lines.proofs.write_row.Tie as tie
 
-abbrev to-start : tie.After-at2 → tie.Start
-to-start c = c .before .before .before .before .before
+abbrev To-start : tie.After-at2 → tie.Start
+To-start c = c .before .before .before .before .before
 
-widths : (c : tie.After-at2) → RowWidths (to-start c .args .row) (c .before .at .result) (c .at2 .result)
-widths c = row-widths _ _ _ (to-start c .pre .1 .below) _ _ (c .before .at .ensures) (c .at2 .ensures)
+widths : (c : tie.After-at2) → RowWidths (To-start c .args .row) (c .before .at .result) (c .at2 .result)
+widths c = row-widths _ _ _ (To-start c .pre .1 .below) _ _ (c .before .at .ensures) (c .at2 .ensures)
 
 at-requires : tie.Need-at-requires
 at-requires c κs = search needs
@@ -26,7 +27,7 @@ write-line-requires : tie.Need-write-line-requires
 unfolding mostRowLine spaced
 write-line-requires c κs =
     let lit = c .before .before in
-    simp length-append (omega (arith, to-start lit .pre .0, widths lit))
+    simp length-append (omega (arith, To-start lit .pre .0, widths lit))
 
 same-length : tie.Need-same-length
 same-length c = search needs
@@ -37,7 +38,7 @@ returns c =
     let written = c .before .before in
     let lit = written .before .before .before in
     let text = written .write-line .ensures in (
-      adds-same text (row-line-told _ _ _ (to-start lit .pre .1 .below) _ _ (lit .before .at .ensures) (lit .at2 .ensures)),
+      adds-same text (row-line-told _ _ _ (To-start lit .pre .1 .below) _ _ (lit .before .at .ensures) (lit .at2 .ensures)),
       omega (arith, simp length-append at (text .is-next), widths lit),
     )
 

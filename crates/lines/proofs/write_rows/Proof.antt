@@ -5,9 +5,11 @@ use native.Mathlib.Nat.{le-antisymm}
 use native.Mathlib.Numerals.{add-one}
 use native.Mathlib.Omega.{arith}
 use borrow.Author.Needs.{needs}
+use Rattle.ground.specs.Bytes.{Adds}
+use Rattle.ground.specs.BytesLaws.{adds-none, adds-both, adds-same, adds-length}
 use Rattle.shelf.specs.Rows.{rowCount}
 use Rattle.lines.specs.Text.{rowLines}
-use Rattle.lines.specs.Writing.{byteDigits, rowDigits, mostRowLine, Adds, adds-none, adds-both, adds-same, adds-length}
+use Rattle.lines.specs.Writing.{byteDigits, rowDigits, mostRowLine}
 use Rattle.lines.proofs.write_rows.Statement.{statement}
 use Rattle.lines.proofs.write_rows.Tie as tie
 
@@ -25,9 +27,10 @@ loop-holds c = (omega arith, adds-none _ _ (omega arith), omega arith)
 write-row-requires : tie.Need-write-row-requires Inv-loop μ-loop
 unfolding mostRowLine rowDigits byteDigits rowCount
 write-row-requires c κs =
-    let start = c .before .before .before .before .before .before in
-    let loop = c .before .before .loop in
-    let taken = c .before .loop-test .taken in (
+    let turn = c .before in
+    let loop = turn .before .loop in
+    let start = turn .before .before .before .before .before in
+    let taken = turn .loop-test .taken in (
       omega (arith, start .pre .0, adds-length (loop .inv .1), loop .inv .2),
       record { below = omega (arith, start .pre .1 .few); a-call = omega arith; its-settings = omega (arith, start .pre .1 .settings-length) },
     )

@@ -1,8 +1,10 @@
 -- `planfile::are_stated` meets its contract: each return goes by the tests that led there.
+use mathlib.Core.Bool.{and-true}
 use borrow.Author.Needs.{needs}
 use borrow.Author.Tests.{eq-eqb, ne-eqb, le-leb, lt-leb}
+use Rattle.ground.specs.Truth.{all}
 use Rattle.planfile.specs.File.{mostNote}
-use Rattle.planfile.specs.Reader.{placesStated}
+use Rattle.planfile.specs.Reader.{distancesStated}
 use Rattle.planfile.proofs.are_stated.Statement.{statement}
 use Rattle.planfile.proofs.are_stated.Tie as tie
 
@@ -10,14 +12,14 @@ settings-distance-requires : tie.Need-settings-distance-requires
 settings-distance-requires c κs = search needs
 
 returns : tie.Need-returns
-unfolding placesStated mostNote
+unfolding distancesStated all mostNote
 returns c = rw (← c .before .settings-distance .ensures .0, ne-eqb _ _ (c .if1 .taken))
 
 calls-distance-requires : tie.Need-calls-distance-requires
 calls-distance-requires c κs = search needs
 
 returns-2 : tie.Need-returns-2
-unfolding placesStated mostNote
+unfolding distancesStated all mostNote
 returns-2 c =
     rw (
       ← c .before .before .before .settings-distance .ensures .0,
@@ -27,7 +29,7 @@ returns-2 c =
     )
 
 returns-3 : tie.Need-returns-3
-unfolding placesStated mostNote
+unfolding distancesStated all mostNote
 returns-3 c =
     rw (
       ← c .before .before .before .before .settings-distance .ensures .0,
@@ -38,7 +40,7 @@ returns-3 c =
     )
 
 returns-4 : tie.Need-returns-4
-unfolding placesStated mostNote
+unfolding distancesStated all mostNote
 returns-4 c =
     rw (
       ← c .before .before .before .before .settings-distance .ensures .0,
@@ -46,6 +48,7 @@ returns-4 c =
       ← c .before .before .calls-distance .ensures,
       eq-eqb _ _ (c .before .if2 .left),
       le-leb _ _ (c .if3 .left),
+      and-true,
     )
 
 pub are-stated-spec : {M : Type 1} → statement M

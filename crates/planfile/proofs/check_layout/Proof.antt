@@ -1,9 +1,10 @@
--- `planfile::check_layout` meets its contract: the parts at the layout's places are K call rows and their settings.
+-- `planfile::check_layout` meets its contract: the parts at the layout's positions are K call rows and their settings.
 use native.Mathlib.Omega.{arith}
 use borrow.Author.Needs.{needs}
 use denote.Ref.{now}
-use Rattle.planfile.specs.File.{part}
-use Rattle.planfile.specs.FileLaws.{length-part, rows-part}
+use Rattle.ground.specs.Bytes.{part}
+use Rattle.ground.specs.BytesLaws.{length-part}
+use Rattle.planfile.specs.FileLaws.{rows-part}
 use Rattle.planfile.specs.Reader.{layoutChecks}
 use Rattle.planfile.proofs.check_layout.Statement.{statement}
 use Rattle.planfile.proofs.check_layout.Tie as tie
@@ -29,9 +30,10 @@ part-check-table-end-2 c = search needs
 check-table-requires : tie.Need-check-table-requires
 unfolding part
 check-table-requires c κs =
-    let file = now (c .before .before .before .before .args .file) in
-    let layout = c .before .before .before .before .args .layout in
-    let laid = c .before .before .before .before .pre in (
+    let start = c .before .before .before .before in
+    let file = now (start .args .file) in
+    let layout = start .args .layout in
+    let laid = start .pre in (
       laid .limits,
       rw (rows-part file (layout .«calls_at») (layout .«settings_at») (layout .count) (omega arith) (laid .calls-end)) (omega (arith, length-part file (layout .«settings_at») (layout .«trailer_at») (laid .inside))),
     )

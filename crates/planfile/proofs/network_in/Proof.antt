@@ -23,7 +23,7 @@ new-requires c κs = search needs
 
 returns : tie.Need-returns
 unfolding toldNet
-returns c = rw (← c .before .before .before .byte-at .ensures .0, ← c .before .before .byte-at2 .ensures .0, ← c .before .byte-at3 .ensures .0) (c .new .ensures .0 .is-sized)
+returns c = cc
 
 pub network-in-spec : {M : Type 1} → statement M
 network-in-spec =

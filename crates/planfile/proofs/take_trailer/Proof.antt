@@ -1,23 +1,29 @@
--- `planfile::take_trailer` meets its contract: each return is one of the laws of the trailer's tests.
+-- `planfile::take_trailer` meets its contract: the first check that refuses is the answer, and else the layout that the trailer tells.
 use mathlib.Core.Path.{_≡_, sym, _∙_}
 use mathlib.Core.Bool.{true}
-use mathlib.Core.List.{List}
-use Prim.Native.Nat.{ℕ, _≤_}
+use mathlib.Core.List.{List, [], _∷_}
+use Prim.Native.Nat.{ℕ}
 use native.Mathlib.Omega.{arith}
-use lib.ListN.{length}
 use borrow.Author.Needs.{needs}
-use borrow.Author.Tests.{not-true, not-false}
+use borrow.Author.Tests.{not-true, not-false, lt-ltb, le-ltb}
 use denote.Ref.{now}
+use Rattle.ground.specs.Truth.{any}
+use Rattle.ground.specs.Bytes.{part}
 use Rattle.shelf.specs.Network.{withinLimits, mostCalls}
-use Rattle.planfile.specs.File.{trailerLength, part}
-use Rattle.planfile.specs.Reader.{trailerAt, trailerIn, toldNet, toldKind, toldCount, toldSettingsBack, toldCallsBack, isTrailer, placesTold}
-use Rattle.planfile.specs.TrailerLaws.{Places, places-are, settings-held, not-sized, made-sized, short-file, no-mark, wrong-sizes, many-calls, wrong-places, whole-trailer}
+use Rattle.shelf.specs.NetworkLaws.{made-sized, refused-sized}
+use Rattle.calls.specs.declared.Verdict.{Verdict}
+use Rattle.calls.specs.Verdict.{inTurn}
+use Rattle.calls.specs.VerdictLaws.{test-stops, test-goes-on, test-passes}
+use Rattle.calls.specs.Table.{badSizes, tooManyCalls}
+use Rattle.planfile.specs.File.{trailerLength}
+use Rattle.planfile.specs.Reader.{trailerAt, trailerIn, toldNet, toldKind, toldCount, toldSettingsBack, toldCallsBack, noTrailer, distancesTold, badDistances, trailerVerdict}
+use Rattle.planfile.specs.TrailerLaws.{Distances, distances-are, settings-held, refused-apart, whole-apart}
 use Rattle.planfile.proofs.take_trailer.Statement.{statement}
 use Rattle.planfile.proofs.take_trailer.Tie as tie
 
 returns : tie.Need-returns
-unfolding trailerLength
-returns c = short-file _ (c .if1 .taken)
+unfolding trailerVerdict noTrailer any trailerLength
+returns c = refused-apart _ 13 (test-stops 13 0 _ (rw (lt-ltb _ _ (c .if1 .taken))))
 
 sub-trailer-at : tie.Need-sub-trailer-at
 sub-trailer-at c = search needs
@@ -35,49 +41,37 @@ is-trailer-requires : tie.Need-is-trailer-requires
 unfolding trailerLength
 is-trailer-requires c κs = search needs
 
--- Past the two tests of 14, the constructor's and that of the places: the facts that these tests leave, of the file's own trailer.
+returns-2 : tie.Need-returns-2
+unfolding trailerVerdict noTrailer any trailerIn trailerAt trailerLength part
+returns-2 c =
+    let long = c .before .before .before .if1 .left in
+    refused-apart _ 13 (test-stops 13 0 _ (rw (le-ltb _ _ long, sym (c .before .is-trailer .ensures) ∙ not-true _ (c .if2 .taken))))
+
+-- The stations: past 14, past 1, past 3; the file there, and the checks from 1, 3 and 15 on. What they tell is the trailer's verdict.
+abbrev Past-14 : tie.After-known-told → tie.Else2
+Past-14 c = c .before .before .before .before
+
+abbrev Past-1 : tie.Else3 → tie.After-known-told
+Past-1 c = c .before .before .before
+
+abbrev Past-3 : tie.After-are-stated → tie.Else3
+Past-3 c = c .before .before .before
+
 abbrev File : tie.Else2 → List ℕ
 File c = now (c .before .before .before .before .before .args .file)
 
-abbrev To-limits : tie.After-known-told → tie.Else2
-To-limits c = c .before .before .before .before
+abbrev From-15 : List ℕ → List Verdict
+From-15 file = badDistances (trailerIn file) (trailerAt file) ∷ []
 
-abbrev To-places : tie.After-are-stated → tie.After-known-told
-To-places c = c .before .before .before .before .before .before
+abbrev From-3 : List ℕ → List Verdict
+From-3 file = tooManyCalls (toldCount (trailerIn file)) ∷ From-15 file
 
-long : (c : tie.Else2) → trailerLength ≤ length (File c)
-unfolding trailerLength
-long c = c .before .before .before .if1 .left
+abbrev From-1 : List ℕ → List Verdict
+From-1 file = badSizes (toldNet (trailerIn file)) ∷ From-3 file
 
-marked : (c : tie.Else2) → isTrailer (trailerIn (File c)) ≡ true
-unfolding trailerIn trailerAt trailerLength part
-marked c = sym (c .before .is-trailer .ensures) ∙ not-false _ (c .if2 .left)
-
-made : (c : tie.After-known-told) → (withinLimits (toldNet (trailerIn (File (To-limits c)))) ≡ true) × (c .before .net .given .0 .0 ≡ toldNet (trailerIn (File (To-limits c))))
-unfolding trailerIn trailerAt trailerLength part
-made c = made-sized _ _ (sym (c .before .before .before .network-in .ensures) ∙ c .before .net .given .1)
-
-counted : (c : tie.Else3) → toldCount (trailerIn (File (To-limits (c .before .before .before)))) ≤ mostCalls
-unfolding trailerIn trailerAt trailerLength part toldCount mostCalls
-counted c = rw (c .before .number-at .ensures .0) at (c .if3 .left)
-
-judged : (c : tie.After-are-stated) → c .are-stated .result ≡ placesTold (trailerIn (File (To-limits (To-places c)))) (trailerAt (File (To-limits (To-places c))))
-unfolding placesTold trailerIn trailerAt trailerLength part toldKind toldCount toldSettingsBack toldCallsBack
-judged c =
-    rw (
-      ← c .before .before .before .before .before .byte-at .ensures .0,
-      ← c .before .before .before .before .number-at .ensures .0,
-      ← c .before .before .number-at2 .ensures .0,
-      ← c .before .number-at3 .ensures .0,
-    ) (c .are-stated .ensures)
-
-stated : (c : tie.Else4) → Places (c .before .before .before .before .before .before .byte-at .result) (c .before .before .before .before .before .number-at .result) (c .before .before .before .number-at2 .result) (c .before .before .number-at3 .result) (trailerAt (File (To-limits (To-places (c .before)))))
-unfolding trailerAt trailerLength
-stated c = places-are _ _ _ _ _ .0 (rw (sym (c .before .are-stated .ensures) ∙ not-false _ (c .if4 .left)) tt)
-
-returns-2 : tie.Need-returns-2
-unfolding trailerIn trailerAt trailerLength part
-returns-2 c = no-mark _ (c .before .before .before .if1 .left) (sym (c .before .is-trailer .ensures) ∙ not-true _ (c .if2 .taken))
+past-14 : (c : tie.Else2) (v : Verdict) → v ≡ inTurn (From-1 (File c)) → v ≡ trailerVerdict (File c)
+unfolding trailerVerdict noTrailer any trailerIn trailerAt trailerLength part
+past-14 c v = test-goes-on 14 0 _ _ (rw (le-ltb _ _ (c .before .before .before .if1 .left), sym (c .before .is-trailer .ensures) ∙ not-false _ (c .if2 .left)))
 
 network-in-requires : tie.Need-network-in-requires
 unfolding trailerLength
@@ -90,10 +84,9 @@ enum-told : tie.Need-enum-told
 enum-told c = search needs
 
 returns-3 : tie.Need-returns-3
-unfolding trailerIn trailerAt trailerLength part
+unfolding badSizes trailerIn trailerAt trailerLength part
 returns-3 c =
-    let else2 = c .before .before .before in
-    wrong-sizes _ (long else2) (marked else2) (not-sized _ (sym (c .before .before .network-in .ensures) ∙ c .enum-told .given .1))
+    refused-apart _ 0 (past-14 (c .before .before .before) _ (test-stops 0 0 _ (rw (refused-sized _ (sym (c .enum-told .given .1) ∙ c .before .before .network-in .ensures)))))
 
 byte-at-requires : tie.Need-byte-at-requires
 byte-at-requires c κs = search needs
@@ -101,11 +94,26 @@ byte-at-requires c κs = search needs
 number-at-requires : tie.Need-number-at-requires
 number-at-requires c κs = search needs
 
+-- the network is that of the sizes told, within their limits
+made : (c : tie.After-known-told) → (withinLimits (toldNet (trailerIn (File (Past-14 c)))) ≡ true) × (c .before .net .given .0 .0 ≡ toldNet (trailerIn (File (Past-14 c))))
+unfolding trailerIn trailerAt trailerLength part
+made c = made-sized _ _ (sym (c .before .net .given .1) ∙ c .before .before .before .network-in .ensures)
+
+past-1 : (c : tie.After-known-told) (v : Verdict) → v ≡ inTurn (From-3 (File (Past-14 c))) → v ≡ trailerVerdict (File (Past-14 c))
+unfolding badSizes
+past-1 c v f = past-14 (Past-14 c) v (test-goes-on 1 0 _ _ (rw (made c .0)) f)
+
 returns-4 : tie.Need-returns-4
-unfolding trailerIn trailerAt trailerLength part toldCount mostCalls
+unfolding tooManyCalls trailerIn trailerAt trailerLength part toldCount mostCalls
 returns-4 c =
-    let sized = c .before .before .before in
-    many-calls _ (long (To-limits sized)) (marked (To-limits sized)) (made sized .0) (rw (c .before .number-at .ensures .0) at (c .if3 .taken))
+    let many = rw (c .before .number-at .ensures .0) at (c .if3 .taken) in
+    refused-apart _ 2 (past-1 (c .before .before .before) _ (test-stops 2 0 _ (lt-ltb _ _ many)))
+
+past-3 : (c : tie.Else3) (v : Verdict) → v ≡ inTurn (From-15 (File (Past-14 (Past-1 c)))) → v ≡ trailerVerdict (File (Past-14 (Past-1 c)))
+unfolding tooManyCalls trailerIn trailerAt trailerLength part toldCount mostCalls
+past-3 c v f =
+    let few = rw (c .before .number-at .ensures .0) at (c .if3 .left) in
+    past-1 (Past-1 c) v (test-goes-on 3 0 _ _ (le-ltb _ _ few) f)
 
 number-at-requires-2 : tie.Need-number-at-requires-2
 number-at-requires-2 c κs = search needs
@@ -117,10 +125,21 @@ are-stated-requires : tie.Need-are-stated-requires
 unfolding mostCalls
 are-stated-requires c κs = search needs
 
+-- what was read of the trailer
+judged : (c : tie.After-are-stated) → c .are-stated .result ≡ distancesTold (trailerIn (File (Past-14 (Past-1 (Past-3 c))))) (trailerAt (File (Past-14 (Past-1 (Past-3 c)))))
+unfolding distancesTold trailerIn trailerAt trailerLength part toldKind toldCount toldSettingsBack toldCallsBack
+judged c = cc
+
 returns-5 : tie.Need-returns-5
+unfolding badDistances
 returns-5 c =
-    let sized = To-places (c .before) in
-    wrong-places _ (long (To-limits sized)) (marked (To-limits sized)) (made sized .0) (counted (c .before .before .before .before)) (sym (judged (c .before)) ∙ not-true _ (c .if4 .taken))
+    let at-15 = c .before in
+    refused-apart _ 14 (past-3 (Past-3 at-15) _ (test-stops 14 0 _ (rw (sym (judged at-15) ∙ not-true _ (c .if4 .taken)))))
+
+stated : (c : tie.Else4) → Distances (Past-3 (c .before) .before .before .byte-at .result) (Past-3 (c .before) .before .number-at .result)
+    (c .before .before .before .number-at2 .result) (c .before .before .number-at3 .result) (trailerAt (File (Past-14 (Past-1 (Past-3 (c .before))))))
+unfolding trailerAt trailerLength
+stated c = distances-are _ _ _ _ _ .0 (rw (sym (c .before .are-stated .ensures) ∙ not-false _ (c .if4 .left)) tt)
 
 sub-t9 : tie.Need-sub-t9
 unfolding trailerAt trailerLength
@@ -131,16 +150,15 @@ unfolding trailerAt trailerLength
 sub-t20 c = omega (arith, stated c .held, settings-held (stated c))
 
 returns-6 : tie.Need-returns-6
-unfolding trailerIn trailerAt trailerLength part toldKind toldCount toldSettingsBack toldCallsBack
+unfolding badDistances trailerIn trailerAt trailerLength part toldKind toldCount toldSettingsBack toldCallsBack
 returns-6 c =
-    let sized = To-places (c .before) in
-    whole-trailer _ (long (To-limits sized)) (marked (To-limits sized)) (made sized .0) (counted (c .before .before .before .before)) _ _ _ _ _
-    (made sized .1)
-    (c .before .before .before .before .before .before .byte-at .ensures .0)
-    (c .before .before .before .before .before .number-at .ensures .0)
-    (c .before .before .before .number-at2 .ensures .0)
-    (c .before .before .number-at3 .ensures .0)
-    (sym (judged (c .before)) ∙ not-false _ (c .if4 .left))
+    let at-15 = c .before in
+    let past = past-3 (Past-3 at-15) _ (test-passes 15 0 (rw (sym (judged at-15) ∙ not-false _ (c .if4 .left)))) in
+    whole-apart _ _ _ _ _ _ past (made (Past-1 (Past-3 at-15)) .1)
+    (Past-3 at-15 .before .before .byte-at .ensures .0)
+    (Past-3 at-15 .before .number-at .ensures .0)
+    (at-15 .before .before .number-at2 .ensures .0)
+    (at-15 .before .number-at3 .ensures .0)
 
 pub take-trailer-spec : {M : Type 1} → statement M
 take-trailer-spec =

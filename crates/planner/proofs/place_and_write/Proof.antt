@@ -1,56 +1,25 @@
--- `planner::place_and_write` meets its contract: the part of the centrals that the table needs is lent, and holds the rule's choice.
-use mathlib.Core.Path.{sym, ap, _∙_}
-use lib.ListN.{length}
-use Rattle.shelf.specs.Rows.{rowCount}
-use Rattle.planner.specs.Steps.{part-fits, part-ready, placed-chosen, placed-length, placed-part, placed-room, placed-writable, moved-chosen}
+-- `planner::place_and_write` meets its contract: the rows, all placed, become the settings.
+use mathlib.Core.Path.{_∙_}
 use borrow.Author.Needs.{needs}
+use Rattle.planner.specs.Answers.{writable, written-planned}
 use Rattle.planner.proofs.place_and_write.Statement.{statement}
 use Rattle.planner.proofs.place_and_write.Tie as tie
 
-slice-relend-prefix-place-all : tie.Need-slice-relend-prefix-place-all
-unfolding rowCount
-slice-relend-prefix-place-all c = part-fits _ _ _ _ (c .before .before .before .pre)
+-- the calls are placed
+abbrev Placed : tie.After-cycle → tie.After-place-all
+Placed c = c .before .before .before
 
-slice-aggregate-place-all : tie.Need-slice-aggregate-place-all
-unfolding rowCount
-slice-aggregate-place-all c = sym (part-ready _ _ _ _ (c .before .before .before .before .pre) .places)
+abbrev Entry : tie.After-cycle → tie.Start
+Entry c = Placed c .before .before .before .before
 
-place-all-requires : tie.Need-place-all-requires
-unfolding rowCount
-place-all-requires c κs = part-ready _ _ _ _ (c .before .before .before .before .pre)
-
-slice-reshare-prefix-write-settings : tie.Need-slice-reshare-prefix-write-settings
-unfolding rowCount
-slice-reshare-prefix-write-settings c = placed-room _ _ _ _ (c .before .before .before .before .before .before .before .pre) _ (c .before .before .place-all .ensures .0)
-
-slice-aggregate-write-settings : tie.Need-slice-aggregate-write-settings
-unfolding rowCount
-slice-aggregate-write-settings c = sym (ap length (placed-part _ _ _ _ (c .before .before .before .before .before .before .before .before .pre) _ (c .before .before .before .place-all .ensures .0)) ∙ placed-length _ _ _ _ (c .before .before .before .before .before .before .before .before .pre) _ (c .before .before .before .place-all .ensures .0))
-
-write-settings-requires : tie.Need-write-settings-requires
-unfolding rowCount
-write-settings-requires c κs = rw (placed-part _ _ _ _ (c .before .before .before .before .before .before .before .before .before .pre) _ (c .before .before .before .before .place-all .ensures .0)) (placed-writable _ _ _ _ (c .before .before .before .before .before .before .before .before .before .pre) _ (c .before .before .before .before .place-all .ensures .0))
-
-same-length : tie.Need-same-length
-same-length c = search needs
-
-same-length-2 : tie.Need-same-length-2
-same-length-2 c = search needs
+write-wavelengths-requires : tie.Need-write-wavelengths-requires
+write-wavelengths-requires c κs = let cycle = c .before in rw (cycle .cycle .ensures) (writable (Entry cycle .pre) (Placed cycle .place-all .ensures))
 
 returns : tie.Need-returns
-unfolding rowCount
-returns c = (rw (← (placed-part _ _ _ _ (c .before .before .before .before .before .before .before .before .before .before .before .before .pre) _ (c .before .before .before .before .before .before .before .place-all .ensures .0) ∙ placed-chosen _ _ _ _ (c .before .before .before .before .before .before .before .before .before .before .before .before .pre) _ (c .before .before .before .before .before .before .before .place-all .ensures .0))) (c .before .before .write-settings .ensures), moved-chosen _ _ _ _ (c .before .before .before .before .before .before .before .before .before .before .before .before .pre) _ (c .before .before .before .before .before .before .before .place-all .ensures .1))
+returns c =
+    let wrote = c .before .before in
+    let cycle = wrote .before .before in
+    (wrote .write-wavelengths .ensures ∙ rw (cycle .cycle .ensures) (written-planned (Entry cycle .pre) (Placed cycle .place-all .ensures)), Placed cycle .place-all .ensures .moved-is)
 
 pub place-and-write-spec : {M : Type 1} → statement M
-place-and-write-spec =
-    tie.close
-    (tie.spec
-    slice-relend-prefix-place-all
-    slice-aggregate-place-all
-    place-all-requires
-    slice-reshare-prefix-write-settings
-    slice-aggregate-write-settings
-    write-settings-requires
-    same-length
-    same-length-2
-    returns)
+place-and-write-spec = tie.close (tie.spec (λ c κs. search needs) (λ c κs. tt) write-wavelengths-requires (λ c. search needs) returns)

@@ -1,6 +1,6 @@
 -- `planwriter::check_parts` meets its contract: the first check that refuses is the answer. The file's length fits, since calls and
 -- settings have passed 1, 2 and 3.
-use mathlib.Core.Path.{_≡_, refl, sym, ap, _∙_}
+use mathlib.Core.Path.{_≡_, sym, ap, _∙_}
 use mathlib.Core.List.{List}
 use Prim.Native.Nat.{ℕ}
 use native.Mathlib.Omega.{arith}
@@ -10,13 +10,12 @@ use borrow.Author.Tests.{lt-ltb, le-ltb}
 use denote.Ref.{now}
 use Rattle.shelf.specs.Network.{mostCalls}
 use Rattle.calls.specs.declared.Verdict.{Verdict}
-use Rattle.calls.specs.Verdict.{passed}
-use Rattle.calls.specs.VerdictLaws.{answer-stops, answer-goes-on, refused, not-refused}
+use Rattle.calls.specs.VerdictLaws.{turn-stops, turn-goes-on, turn-last, test-stops, test-goes-on}
 use Rattle.calls.specs.Table.{sizeChecks}
 use Rattle.planfile.specs.File.{trailerLength, mostNote, settingsPerCall}
 use Rattle.planfile.specs.ChecksLaws.{Measured, measured, most-rows}
-use Rattle.planwriter.specs.Writer.{longNote, partChecks}
-use Rattle.planwriter.specs.WriterLaws.{no-room, enough-room}
+use Rattle.planwriter.specs.Writer.{longNote, shortBuffer, partChecks}
+use Rattle.planwriter.specs.WriterLaws.{room-test}
 use Rattle.planwriter.proofs.check_parts.Statement.{statement}
 use Rattle.planwriter.proofs.check_parts.Tie as tie
 
@@ -26,7 +25,7 @@ settings-per-call-requires c κs = search needs
 check-sizes-requires : tie.Need-check-sizes-requires
 check-sizes-requires c κs = search needs
 
--- the parts, at the places of the checks, and what 1, 2 and 3 say of them
+-- the parts, where the checks stand, and what 1, 2 and 3 say of them
 abbrev Args : tie.After-check-sizes → tie.Start
 Args c = c .before .before .before .before .before
 
@@ -44,7 +43,7 @@ known c = measured _ _ _ _ .0 (ap (λ (v : Verdict). v .number) (sym (sizes (c .
 
 returns : tie.Need-returns
 unfolding partChecks
-returns c = answer-stops _ (sizes (c .before .before)) (c .if1 .taken)
+returns c = turn-stops _ (sizes (c .before .before)) (c .if1 .taken)
 
 add-size : tie.Need-add-size
 add-size c = search needs
@@ -59,28 +58,23 @@ add-size-3 c = omega (arith, most-rows _ _ _ _ (known c))
 
 returns-2 : tie.Need-returns-2
 unfolding partChecks longNote mostNote
-returns-2 c =
-    answer-goes-on (sizes (c .before .before .before)) (c .before .if1 .left)
-    (answer-stops _ (sym (refused 16 0 _ (lt-ltb _ _ (c .if2 .taken)))) (λ e. omega arith))
+returns-2 c = turn-goes-on _ _ (sizes (c .before .before .before)) (c .before .if1 .left) (test-stops 15 0 _ (lt-ltb _ _ (c .if2 .taken)))
 
 returns-3 : tie.Need-returns-3
-unfolding partChecks longNote mostNote trailerLength passed
+unfolding partChecks longNote shortBuffer mostNote trailerLength
 returns-3 c =
-    let else2 = c .before in
-    answer-goes-on (sizes (else2 .before .before .before)) (else2 .before .if1 .left)
-    (answer-goes-on (sym (not-refused 16 0 _ (le-ltb _ _ (else2 .if2 .left)))) refl
-    (answer-stops _ (no-room _ _ _ _ _ _ (c .if3 .taken)) (λ e. omega arith)))
+    turn-goes-on _ _ (sizes (c .before .before .before .before)) (c .before .before .if1 .left)
+    (test-goes-on 16 0 _ _ (le-ltb _ _ (c .before .if2 .left)) (test-stops 3 0 _ (room-test _ _ _ _ _ _ ∙ lt-ltb _ _ (c .if3 .taken))))
 
 check-table-requires : tie.Need-check-table-requires
 check-table-requires c κs = let k = known (c .before .before) in (k .limits, k .settings-length)
 
 returns-4 : tie.Need-returns-4
-unfolding partChecks longNote mostNote trailerLength passed
+unfolding partChecks longNote shortBuffer mostNote trailerLength
 returns-4 c =
-    let else2 = c .before .before in
-    answer-goes-on (sizes (else2 .before .before .before)) (else2 .before .if1 .left)
-    (answer-goes-on (sym (not-refused 16 0 _ (le-ltb _ _ (else2 .if2 .left)))) refl
-    (answer-goes-on (enough-room _ _ _ _ _ _ (c .before .if3 .left)) refl (c .check-table .ensures)))
+    turn-goes-on _ _ (sizes (c .before .before .before .before .before)) (c .before .before .before .if1 .left)
+    (test-goes-on 16 0 _ _ (le-ltb _ _ (c .before .before .if2 .left))
+    (test-goes-on 4 0 _ _ (room-test _ _ _ _ _ _ ∙ le-ltb _ _ (c .before .if3 .left)) (turn-last (c .check-table .ensures))))
 
 pub check-parts-spec : {M : Type 1} → statement M
 check-parts-spec =

@@ -1,13 +1,14 @@
--- `planwriter::put_file` meets its contract: each part is put right behind those that stand at the front, and the last is the trailer.
-use mathlib.Core.Path.{ap, _∙_}
+-- `planwriter::put_file` meets its contract: each part is written right behind those before it, and the last is the trailer.
+use mathlib.Core.Path.{ap}
 use Prim.Native.Nat.{_+_, _≤_}
 use native.Mathlib.Omega.{arith}
-use lib.ListN.{length}
+use lib.ListN.{length, length-append}
 use borrow.Author.Needs.{needs}
 use denote.Ref.{now}
+use Rattle.ground.specs.BytesLaws.{adds-both, adds-length, adds-front, adds-same}
 use Rattle.shelf.specs.Rows.{rowCount}
-use Rattle.planfile.specs.File.{trailerLength, trailerOf, fileOf, placed}
-use Rattle.planfile.specs.FileLaws.{front-four, length-file}
+use Rattle.planfile.specs.File.{trailerLength, trailerOf, fileOf}
+use Rattle.planfile.specs.FileLaws.{length-file}
 use Rattle.planwriter.proofs.put_file.Statement.{statement}
 use Rattle.planwriter.proofs.put_file.Tie as tie
 
@@ -15,54 +16,52 @@ use Rattle.planwriter.proofs.put_file.Tie as tie
 room : (c : tie.Start) → length (now (c .args .note)) + length (now (c .args .calls)) + length (now (c .args .settings)) + trailerLength ≤ length (now (c .args .out))
 room c = rw length-file at (c .pre .1 .enough)
 
-add-settings-at : tie.Need-add-settings-at
-add-settings-at c = search needs
+-- the stations: where each part is written
+abbrev To-start : tie.After-trailer-of → tie.Start
+To-start c = c .before .before .before .before .before
 
-add-trailer-at : tie.Need-add-trailer-at
-add-trailer-at c = omega (arith, room (c .before .before .before .before))
+abbrev To-trailer : tie.After-write-bytes → tie.After-trailer-of
+To-trailer c = c .before .before
+
+abbrev To-note : tie.After-write-bytes2 → tie.After-write-bytes
+To-note c = c .before .before .before .before
+
+abbrev To-calls : tie.After-write-bytes3 → tie.After-write-bytes2
+To-calls c = c .before .before .before .before
+
+abbrev To-settings : tie.After-write-bytes4 → tie.After-write-bytes3
+To-settings c = c .before .before .before .before .before
 
 trailer-of-requires : tie.Need-trailer-of-requires
 unfolding rowCount
 trailer-of-requires c κs = let pre = c .before .before .before .before .pre in (pre .1 .limits, pre .0, pre .1 .few)
 
-copy-in-requires : tie.Need-copy-in-requires
-copy-in-requires c κs = omega (arith, room (c .before .before .before .before .before .before))
+write-bytes-requires : tie.Need-write-bytes-requires
+write-bytes-requires c κs = omega (arith, room (To-start (c .before)))
 
--- where each part is in the buffer, what stands at its front is as long as the buffer was
-abbrev To-start : tie.After-copy-in → tie.Start
-To-start c = c .before .before .before .before .before .before .before
+write-bytes-requires-2 : tie.Need-write-bytes-requires-2
+write-bytes-requires-2 c κs =
+    let note = c .before .before .before in
+    let one = note .write-bytes .ensures in
+    omega (arith, room (To-start (To-trailer note)), one .is-next, adds-length one)
 
-abbrev To-first : tie.After-copy-in2 → tie.After-copy-in
-To-first c = c .before .before .before .before
+write-bytes-requires-3 : tie.Need-write-bytes-requires-3
+write-bytes-requires-3 c κs =
+    let calls = c .before .before .before in
+    let two = adds-both (To-note calls .write-bytes .ensures) (calls .write-bytes2 .ensures) in
+    omega (arith, room (To-start (To-trailer (To-note calls))), simp length-append at (two .is-next), adds-length two)
 
-abbrev To-second : tie.After-copy-in3 → tie.After-copy-in2
-To-second c = c .before .before .before .before
+slice-aggregate-write-bytes : tie.Need-slice-aggregate-write-bytes
+slice-aggregate-write-bytes c = search needs
 
-abbrev To-third : tie.After-copy-in4 → tie.After-copy-in3
-To-third c = c .before .before .before .before .before
-
-copy-in-requires-2 : tie.Need-copy-in-requires-2
-copy-in-requires-2 c κs =
-    let first = c .before .before .before in
-    omega (arith, room (To-start first), first .copy-in .kept .1 .0)
-
-copy-in-requires-3 : tie.Need-copy-in-requires-3
-copy-in-requires-3 c κs =
-    let second = c .before .before .before in
-    let first = To-first second in
-    omega (arith, room (To-start first), first .copy-in .kept .1 .0, second .copy-in2 .kept .1 .0)
-
-slice-aggregate-copy-in : tie.Need-slice-aggregate-copy-in
-slice-aggregate-copy-in c = search needs
-
-copy-in-requires-4 : tie.Need-copy-in-requires-4
+write-bytes-requires-4 : tie.Need-write-bytes-requires-4
 unfolding trailerOf trailerLength
-copy-in-requires-4 c κs =
-    let third = c .before .before .before .before in
-    let second = To-second third in
-    let first = To-first second in
-    let trailer = ap length (first .before .before .trailer-of .ensures) in
-    omega (arith, room (To-start first), trailer, first .copy-in .kept .1 .0, second .copy-in2 .kept .1 .0, third .copy-in3 .kept .1 .0)
+write-bytes-requires-4 c κs =
+    let settings = c .before .before .before .before in
+    let calls = To-calls settings in
+    let note = To-note calls in
+    let three = adds-both (adds-both (note .write-bytes .ensures) (calls .write-bytes2 .ensures)) (settings .write-bytes3 .ensures) in
+    omega (arith, room (To-start (To-trailer note)), ap length (To-trailer note .trailer-of .ensures), simp length-append at (three .is-next), adds-length three)
 
 same-length : tie.Need-same-length
 same-length c = search needs
@@ -70,24 +69,22 @@ same-length c = search needs
 returns : tie.Need-returns
 unfolding fileOf rowCount
 returns c =
-    let fourth = c .before .before in
-    let third = To-third fourth in
-    let second = To-second third in
-    let first = To-first second in
-    front-four _ _ _ _ _ (first .copy-in .ensures) (second .copy-in2 .ensures) (third .copy-in3 .ensures)
-    (fourth .copy-in4 .ensures ∙ ap (placed (third .copy-in3 .last .1 .0) _) (first .before .before .trailer-of .ensures))
+    let trailer = c .before .before in
+    let settings = To-settings trailer in
+    let calls = To-calls settings in
+    let note = To-note calls in
+    let three = adds-both (adds-both (note .write-bytes .ensures) (calls .write-bytes2 .ensures)) (settings .write-bytes3 .ensures) in
+    adds-front (adds-both three (adds-same (trailer .write-bytes4 .ensures) (To-trailer note .trailer-of .ensures)))
 
 pub put-file-spec : {M : Type 1} → statement M
 put-file-spec =
     tie.close
     (tie.spec
-    add-settings-at
-    add-trailer-at
     trailer-of-requires
-    copy-in-requires
-    copy-in-requires-2
-    copy-in-requires-3
-    slice-aggregate-copy-in
-    copy-in-requires-4
+    write-bytes-requires
+    write-bytes-requires-2
+    write-bytes-requires-3
+    slice-aggregate-write-bytes
+    write-bytes-requires-4
     same-length
     returns)

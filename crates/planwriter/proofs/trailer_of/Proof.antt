@@ -6,7 +6,7 @@ use borrow.Author.Needs.{needs}
 use Rattle.shelf.specs.declared.Network.{Network}
 use Rattle.shelf.specs.Network.{mostChannels, mostCentrals, mostModules, withinLimits}
 use Rattle.shelf.specs.NetworkLaws.{limits-are}
-use Rattle.planfile.specs.File.{firstMark, secondMark, trailerOf}
+use Rattle.planfile.specs.File.{mark, trailerOf}
 use Rattle.planwriter.proofs.trailer_of.Statement.{statement}
 use Rattle.planwriter.proofs.trailer_of.Tie as tie
 
@@ -51,21 +51,15 @@ high-byte-requires-3 c κs = search needs
 low-byte-requires-3 : tie.Need-low-byte-requires-3
 low-byte-requires-3 c κs = search needs
 
+high-byte-requires-4 : tie.Need-high-byte-requires-4
+high-byte-requires-4 c κs = search needs
+
+low-byte-requires-4 : tie.Need-low-byte-requires-4
+low-byte-requires-4 c κs = search needs
+
 returns : tie.Need-returns
-unfolding trailerOf firstMark secondMark
-returns c =
-    let count = c .before .before .before .before in
-    let distances = count .before .before .before .before .before in
-    rw (
-      count .before .high-byte .ensures,
-      count .low-byte .ensures,
-      c .before .before .before .high-byte2 .ensures,
-      c .before .before .low-byte2 .ensures,
-      c .before .high-byte3 .ensures,
-      c .low-byte3 .ensures,
-      distances .before .settings-distance .ensures .0,
-      distances .calls-distance .ensures,
-    )
+unfolding trailerOf mark
+returns c = cc
 
 pub trailer-of-spec : {M : Type 1} → statement M
 trailer-of-spec =
@@ -83,4 +77,6 @@ trailer-of-spec =
     low-byte-requires-2
     high-byte-requires-3
     low-byte-requires-3
+    high-byte-requires-4
+    low-byte-requires-4
     returns)

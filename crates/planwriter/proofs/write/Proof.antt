@@ -1,8 +1,7 @@
 -- `planwriter::write` meets its contract: where a check refuses the buffer is as it was, else the file is put at its front.
-use mathlib.Core.Path.{sym, ap, _∙_}
 use borrow.Author.Needs.{needs}
+use denote.Ref.{now}
 use Rattle.shelf.specs.Rows.{rowCount}
-use Rattle.calls.specs.declared.Verdict.{Verdict}
 use Rattle.calls.specs.Verdict.{success}
 use Rattle.planwriter.specs.WriterLaws.{has-room, refused-writes, done-writes}
 use Rattle.planwriter.proofs.write.Statement.{statement}
@@ -17,7 +16,8 @@ returns c = refused-writes _ _ _ _ _ _ _ (c .before .before .check-parts .ensure
 put-file-requires : tie.Need-put-file-requires
 put-file-requires c κs =
     let checked = c .before .before .before in
-    (checked .before .before .before .before .before .pre, has-room _ _ _ _ _ _ (ap (λ (v : Verdict). v .number) (sym (checked .check-parts .ensures)) ∙ c .before .if1 .left))
+    let start = checked .before .before .before .before .before in
+    (start .pre, has-room _ _ _ _ _ (now (start .args .out)) _ (checked .check-parts .ensures) (c .before .if1 .left))
 
 same-length : tie.Need-same-length
 same-length c = search needs
@@ -26,7 +26,7 @@ returns-2 : tie.Need-returns-2
 unfolding success rowCount
 returns-2 c =
     let put = c .before .before in
-    done-writes _ _ _ _ _ _ _ (put .before .before .before .before .check-parts .ensures) _ (put .before .before .if1 .left) (put .put-file .ensures)
+    done-writes _ _ _ _ _ _ _ (put .before .before .before .before .check-parts .ensures) (put .before .before .if1 .left) _ (put .put-file .ensures)
 
 pub write-spec : {M : Type 1} → statement M
 write-spec =

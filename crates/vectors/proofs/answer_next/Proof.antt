@@ -1,4 +1,4 @@
--- `vectors::answer_next` is safe: an input is answered only where both buffers have place for it.
+-- `vectors::answer_next` is safe: an input is answered only where both buffers have room for it.
 use mathlib.Core.Path.{sym}
 use lib.Seq.{length-take-le}
 use borrow.Author.Needs.{needs}

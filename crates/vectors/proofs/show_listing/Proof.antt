@@ -1,6 +1,8 @@
 -- `vectors::show_listing` is safe: the text stands in the buffer, which keeps its length.
 use mathlib.Core.Path.{sym}
+use Prim.Native.Nat.{_≤_}
 use native.Mathlib.Omega.{arith}
+use lib.ListN.{length}
 use lib.Seq.{length-take-le}
 use borrow.Author.Needs.{needs}
 use Rattle.lines.specs.Listing.{listed-length}
@@ -28,15 +30,18 @@ changed-requires c κs = search needs
 show-requires-2 : tie.Need-show-requires-2
 show-requires-2 c κs = search needs
 
+-- the text stands in the buffer, once both counts are shown
+abbrev To-list : tie.After-show2 → tie.After-list
+To-list c = c .before .before .before .before .before
+
+inside : (c : tie.After-list) → c .list .result ≤ length (c .list .last .1 .0)
+inside c = omega (arith, listed-length (c .list .ensures), c .list .ensures .inside)
+
 array-share-prefix-text : tie.Need-array-share-prefix-text
-array-share-prefix-text c =
-    let listed = c .before .before .before .before .before .list .ensures in
-    omega (arith, listed-length listed, listed .inside)
+array-share-prefix-text c = inside (To-list c)
 
 slice-aggregate-end-line : tie.Need-slice-aggregate-end-line
-slice-aggregate-end-line c =
-    let listed = c .before .before .before .before .before .before .list .ensures in
-    sym (length-take-le _ _ (omega (arith, listed-length listed, listed .inside)))
+slice-aggregate-end-line c = sym (length-take-le _ _ (inside (To-list (c .before))))
 
 end-line-requires : tie.Need-end-line-requires
 end-line-requires c κs = search needs

@@ -5,9 +5,6 @@ use borrow.Author.Needs.{needs}
 use Rattle.shelf.proofs.Network.new.Statement.{statement}
 use Rattle.shelf.proofs.Network.new.Tie as tie
 
-within-limits-requires : tie.Need-within-limits-requires
-within-limits-requires c κs = search needs
-
 returns : tie.Need-returns
 unfolding sized mostChannels mostCentrals mostModules mostCalls
 returns c = (record { is-sized = rw (sym (c .before .within-limits .ensures) ∙ c .if1 .taken); tells = rw (sym (c .before .within-limits .ensures) ∙ c .if1 .taken) }, record { of-n = refl; of-m = refl; of-r = refl; of-K = refl })
@@ -17,4 +14,4 @@ unfolding sized mostChannels mostCentrals mostModules mostCalls
 returns-2 c = (record { is-sized = rw (sym (c .before .within-limits .ensures) ∙ c .if1 .left); tells = rw (sym (c .before .within-limits .ensures) ∙ c .if1 .left) }, record { of-n = refl; of-m = refl; of-r = refl; of-K = refl })
 
 pub new-spec : {M : Type 1} → statement M
-new-spec = tie.close (tie.spec within-limits-requires returns returns-2)
+new-spec = tie.close (tie.spec (λ c κs. search needs) returns returns-2)

@@ -1,0 +1,11 @@
+pub mod Truth
+pub mod TruthLaws
+pub mod Numbers
+pub mod Below
+pub mod BelowLaws
+pub mod Lists
+pub mod ListsLaws
+pub mod Marks
+pub mod MarksLaws
+pub mod Bytes
+pub mod BytesLaws
