@@ -1,10 +1,10 @@
 //! Comparison of two implementations on one input, and on every small input.
 
-use crate::inputs::{calls_of_pairs, file_of, Entry, Input};
-use crate::pairs::filled;
+use crate::inputs::{file_of, filled, settings_length, Entry, Input};
+use crate::ladders::calls_of_pairs;
 use crate::{
-    Entries, Network, Planned, Told, Verdict, CALL_BYTES, KIND_CALLS, KIND_PLANNED, SETTING_BYTES,
-    TRAILER_BYTES,
+    Entries, Network, Planned, Told, Verdict, CALL_BYTES, HIGHEST_NUMBER, KIND_CALLS, KIND_PLANNED,
+    SETTING_BYTES, TRAILER_BYTES,
 };
 
 /// What an entry answered.
@@ -70,7 +70,7 @@ pub struct Difference {
 /// How often each entry gave each number.
 #[derive(Clone, Default, Debug)]
 pub struct Coverage {
-    counts: [[usize; 17]; 5],
+    counts: [[usize; HIGHEST_NUMBER + 1]; Entry::ALL.len()],
 }
 
 impl Coverage {
@@ -167,7 +167,7 @@ fn run(entries: &dyn Entries, input: &Input) -> Outcome {
             let lent = [Lent::new(calls)];
             let mut room = Lent::new(settings);
             let answer = entries.plan(*net, lent[0].bytes(), room.bytes_mut());
-            let written = SETTING_BYTES * (calls.len() / CALL_BYTES);
+            let written = settings_length(calls);
             outcome(Answer::Planned(answer), &lent, &room, written)
         }
         Input::Accept {
@@ -191,12 +191,10 @@ fn run(entries: &dyn Entries, input: &Input) -> Outcome {
             settings,
             out,
         } => {
-            let lent = [Lent::new(note), Lent::new(calls), Lent::new(settings)];
-            let mut room = Lent::new(out);
-            let [note, calls, settings] = [lent[0].bytes(), lent[1].bytes(), lent[2].bytes()];
-            let answer = entries.write_calls(*net, note, calls, settings, room.bytes_mut());
             let written = note.len() + calls.len() + TRAILER_BYTES;
-            outcome(Answer::Verdict(answer), &lent, &room, written)
+            run_writer([note, calls, settings], out, written, |parts, out| {
+                entries.write_calls(*net, parts[0], parts[1], parts[2], out)
+            })
         }
         Input::WritePlanned {
             net,
@@ -205,14 +203,29 @@ fn run(entries: &dyn Entries, input: &Input) -> Outcome {
             settings,
             out,
         } => {
-            let lent = [Lent::new(note), Lent::new(calls), Lent::new(settings)];
-            let mut room = Lent::new(out);
-            let [note, calls, settings] = [lent[0].bytes(), lent[1].bytes(), lent[2].bytes()];
-            let answer = entries.write_planned(*net, note, calls, settings, room.bytes_mut());
             let written = note.len() + calls.len() + settings.len() + TRAILER_BYTES;
-            outcome(Answer::Verdict(answer), &lent, &room, written)
+            run_writer([note, calls, settings], out, written, |parts, out| {
+                entries.write_planned(*net, parts[0], parts[1], parts[2], out)
+            })
         }
     }
+}
+
+/// Lends a writer its note, calls and settings, and its room.
+fn run_writer(
+    parts: [&[u8]; 3],
+    out: &[u8],
+    written: usize,
+    write: impl Fn([&[u8]; 3], &mut [u8]) -> Verdict,
+) -> Outcome {
+    let lent = parts.map(Lent::new);
+    let mut room = Lent::new(out);
+    let [note, calls, settings] = &lent;
+    let answer = write(
+        [note.bytes(), calls.bytes(), settings.bytes()],
+        room.bytes_mut(),
+    );
+    outcome(Answer::Verdict(answer), &lent, &room, written)
 }
 
 fn outcome(answer: Answer, lent: &[Lent], room: &Lent, written: usize) -> Outcome {
@@ -233,8 +246,8 @@ fn broken_sentence(
     if !lent.iter().all(Lent::is_unchanged) {
         return Some("a buffer that is only read keeps its bytes and its guard bytes");
     }
-    if answer.number() > 16 {
-        return Some("numbers are 0 to 16");
+    if answer.number() > HIGHEST_NUMBER {
+        return Some("a number is 0 or that of a refusal");
     }
     if answer.number() != 0 {
         if !room.is_unchanged() {
@@ -302,13 +315,13 @@ fn first_difference(left: &[u8], right: &[u8]) -> Option<usize> {
 // Two implementations on every small input.
 
 /// Two implementations under comparison, and what they have been seen to answer.
-struct Pair<'a> {
+struct Both<'a> {
     left: &'a dyn Entries,
     right: &'a dyn Entries,
     coverage: Coverage,
 }
 
-impl Pair<'_> {
+impl Both<'_> {
     fn compare(&mut self, input: Input) -> Result<(), Difference> {
         self.coverage
             .add(compare_all(self.left, self.right, &input)?);
@@ -322,20 +335,20 @@ pub fn compare_exhaustively(
     left: &dyn Entries,
     right: &dyn Entries,
 ) -> Result<Coverage, Difference> {
-    let mut pair = Pair {
+    let mut both = Both {
         left,
         right,
         coverage: Coverage::default(),
     };
-    plan_small_tables(&mut pair)?;
-    plan_sound_tables(&mut pair)?;
-    plan_pairs(&mut pair)?;
-    accept_one_row(&mut pair)?;
-    accept_two_rows(&mut pair)?;
-    write_and_read_one_row(&mut pair)?;
-    read_damaged_files(&mut pair)?;
-    try_rooms(&mut pair)?;
-    Ok(pair.coverage)
+    plan_small_tables(&mut both)?;
+    plan_longer_tables(&mut both)?;
+    plan_pairs(&mut both)?;
+    accept_one_row(&mut both)?;
+    accept_two_rows(&mut both)?;
+    write_and_read_one_row(&mut both)?;
+    read_damaged_files(&mut both)?;
+    try_rooms(&mut both)?;
+    Ok(both.coverage)
 }
 
 /// All networks with each size from 0 to the highest.
@@ -366,20 +379,20 @@ fn strings(length: usize, highest: u8) -> impl Iterator<Item = Vec<u8>> {
 }
 
 fn plan_input(net: Network, calls: Vec<u8>) -> Input {
-    let count = calls.len() / CALL_BYTES;
+    let room = filled(settings_length(&calls) + 2);
     Input::Plan {
         net,
         calls,
-        settings: filled(SETTING_BYTES * count + 2),
+        settings: room,
     }
 }
 
 /// Every network with sizes up to 2, every table of up to two rows with numbers up to 2.
-fn plan_small_tables(pair: &mut Pair) -> Result<(), Difference> {
+fn plan_small_tables(both: &mut Both) -> Result<(), Difference> {
     for net in networks(2) {
         for rows in 0..=2 {
             for calls in strings(CALL_BYTES * rows, 2) {
-                pair.compare(plan_input(net, calls))?;
+                both.compare(plan_input(net, calls))?;
             }
         }
     }
@@ -387,15 +400,15 @@ fn plan_small_tables(pair: &mut Pair) -> Result<(), Difference> {
 }
 
 /// Tables of three rows, and for 2-2-2 of four, with numbers up to 1.
-fn plan_sound_tables(pair: &mut Pair) -> Result<(), Difference> {
+fn plan_longer_tables(both: &mut Both) -> Result<(), Difference> {
     for net in networks(2) {
         for calls in strings(CALL_BYTES * 3, 1) {
-            pair.compare(plan_input(net, calls))?;
+            both.compare(plan_input(net, calls))?;
         }
     }
     let net = Network { n: 2, m: 2, r: 2 };
     for calls in strings(CALL_BYTES * 4, 1) {
-        pair.compare(plan_input(net, calls))?;
+        both.compare(plan_input(net, calls))?;
     }
     Ok(())
 }
@@ -403,7 +416,7 @@ fn plan_sound_tables(pair: &mut Pair) -> Result<(), Difference> {
 /// Tables of four and five calls between any of three input modules and three output modules, each
 /// on the next channel of its modules, with two channels and then three, and two centrals: chains,
 /// full modules, and one too many.
-fn plan_pairs(pair: &mut Pair) -> Result<(), Difference> {
+fn plan_pairs(both: &mut Both) -> Result<(), Difference> {
     for n in 2..=3 {
         let net = Network { n, m: 2, r: 3 };
         for rows in 4..=5 {
@@ -412,7 +425,7 @@ fn plan_pairs(pair: &mut Pair) -> Result<(), Difference> {
                     .chunks_exact(2)
                     .map(|two| (usize::from(two[0]), usize::from(two[1])))
                     .collect();
-                pair.compare(plan_input(net, calls_of_pairs(&pairs)))?;
+                both.compare(plan_input(net, calls_of_pairs(&pairs)))?;
             }
         }
     }
@@ -421,11 +434,11 @@ fn plan_pairs(pair: &mut Pair) -> Result<(), Difference> {
 
 /// Every network with sizes up to 3, every row with numbers up to 2, every settings row with
 /// numbers up to 3.
-fn accept_one_row(pair: &mut Pair) -> Result<(), Difference> {
+fn accept_one_row(both: &mut Both) -> Result<(), Difference> {
     for net in networks(3) {
         for calls in strings(CALL_BYTES, 2) {
             for settings in strings(SETTING_BYTES, 3) {
-                pair.compare(Input::Accept {
+                both.compare(Input::Accept {
                     net,
                     calls: calls.clone(),
                     settings,
@@ -437,11 +450,11 @@ fn accept_one_row(pair: &mut Pair) -> Result<(), Difference> {
 }
 
 /// 2-2-2: every table of two rows with numbers up to 1, every settings with numbers up to 2.
-fn accept_two_rows(pair: &mut Pair) -> Result<(), Difference> {
+fn accept_two_rows(both: &mut Both) -> Result<(), Difference> {
     let net = Network { n: 2, m: 2, r: 2 };
     for calls in strings(CALL_BYTES * 2, 1) {
         for settings in strings(SETTING_BYTES * 2, 2) {
-            pair.compare(Input::Accept {
+            both.compare(Input::Accept {
                 net,
                 calls: calls.clone(),
                 settings,
@@ -453,25 +466,25 @@ fn accept_two_rows(pair: &mut Pair) -> Result<(), Difference> {
 
 /// Every network with sizes up to 2, one row with numbers up to 2: written and read, calls only and
 /// planned.
-fn write_and_read_one_row(pair: &mut Pair) -> Result<(), Difference> {
+fn write_and_read_one_row(both: &mut Both) -> Result<(), Difference> {
     let note = filled(1);
     for net in networks(2) {
         for calls in strings(CALL_BYTES, 2) {
-            pair.compare(Input::WriteCalls {
+            both.compare(Input::WriteCalls {
                 net,
                 note: note.clone(),
                 calls: calls.clone(),
                 settings: Vec::new(),
                 out: filled(19),
             })?;
-            pair.compare(Input::Read {
+            both.compare(Input::Read {
                 file: file_of(KIND_CALLS, net, &note, &calls, &[]),
             })?;
             for settings in strings(SETTING_BYTES, 2) {
-                pair.compare(Input::Read {
+                both.compare(Input::Read {
                     file: file_of(KIND_PLANNED, net, &note, &calls, &settings),
                 })?;
-                pair.compare(Input::WritePlanned {
+                both.compare(Input::WritePlanned {
                     net,
                     note: note.clone(),
                     calls: calls.clone(),
@@ -485,7 +498,7 @@ fn write_and_read_one_row(pair: &mut Pair) -> Result<(), Difference> {
 }
 
 /// Two files of each kind: every value of every byte, and every cut at either end.
-fn read_damaged_files(pair: &mut Pair) -> Result<(), Difference> {
+fn read_damaged_files(both: &mut Both) -> Result<(), Difference> {
     let net = Network { n: 2, m: 2, r: 2 };
     let calls = [0, 0, 0, 0, 1, 0, 1, 0];
     let settings = [0, 0, 0, 1, 0, 1];
@@ -500,14 +513,14 @@ fn read_damaged_files(pair: &mut Pair) -> Result<(), Difference> {
             for byte in 0..=255 {
                 let mut damaged = file.clone();
                 damaged[place] = byte;
-                pair.compare(Input::Read { file: damaged })?;
+                both.compare(Input::Read { file: damaged })?;
             }
         }
         for cut in 0..=file.len() {
-            pair.compare(Input::Read {
+            both.compare(Input::Read {
                 file: file[..cut].to_vec(),
             })?;
-            pair.compare(Input::Read {
+            both.compare(Input::Read {
                 file: file[cut..].to_vec(),
             })?;
         }
@@ -516,25 +529,25 @@ fn read_damaged_files(pair: &mut Pair) -> Result<(), Difference> {
 }
 
 /// Rooms of every length around what is needed, and notes around 255 bytes.
-fn try_rooms(pair: &mut Pair) -> Result<(), Difference> {
+fn try_rooms(both: &mut Both) -> Result<(), Difference> {
     let net = Network { n: 2, m: 2, r: 2 };
     let calls = [0, 0, 0, 0, 1, 0, 1, 0];
     let settings = [0, 0, 0, 1, 0, 1];
     for room in 0..=300 {
-        pair.compare(Input::Plan {
+        both.compare(Input::Plan {
             net,
             calls: calls.to_vec(),
             settings: filled(room),
         })?;
         for note in [0, 1, 254, 255, 256, 257] {
-            pair.compare(Input::WriteCalls {
+            both.compare(Input::WriteCalls {
                 net,
                 note: filled(note),
                 calls: calls.to_vec(),
                 settings: Vec::new(),
                 out: filled(room),
             })?;
-            pair.compare(Input::WritePlanned {
+            both.compare(Input::WritePlanned {
                 net,
                 note: filled(note),
                 calls: calls.to_vec(),

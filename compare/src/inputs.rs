@@ -1,5 +1,7 @@
-//! Drawn inputs for all five entries, the same for the same seed.
+//! Inputs of the five entries: what they are, the parts that they are made of, and drawn ones, the
+//! same for the same seed. Of `plain.rs` only the planner is used, for drawn settings that are right.
 
+use crate::ladders::{calls_of_pairs, path, rounds_and_ladder};
 use crate::plain::Plain;
 use crate::{
     Entries, Network, CALL_BYTES, KIND_CALLS, KIND_PLANNED, LONGEST_NOTE, MARK, SETTING_BYTES,
@@ -70,6 +72,55 @@ impl Input {
     }
 }
 
+// The parts of an input.
+
+/// The call row from an inlet to an outlet, both by number: module by module, channel by channel.
+pub fn call_of(net: Network, inlet: usize, outlet: usize) -> [u8; CALL_BYTES] {
+    [
+        (inlet / net.n) as u8,
+        (inlet % net.n) as u8,
+        (outlet / net.n) as u8,
+        (outlet % net.n) as u8,
+    ]
+}
+
+/// The settings row that a call needs on a central.
+pub fn setting_of(net: Network, call: &[u8], central: usize) -> [u8; SETTING_BYTES] {
+    let cycle = net.cycle();
+    [
+        ((usize::from(call[0]) + central) % cycle) as u8,
+        central as u8,
+        ((central + usize::from(call[2])) % cycle) as u8,
+    ]
+}
+
+/// Bytes of the settings of a call table: 3 for each whole call row.
+pub fn settings_length(calls: &[u8]) -> usize {
+    SETTING_BYTES * (calls.len() / CALL_BYTES)
+}
+
+/// A file as the document lays it out, without any check; numbers too large for their bytes are
+/// cut.
+pub fn file_of(kind: usize, net: Network, note: &[u8], calls: &[u8], settings: &[u8]) -> Vec<u8> {
+    let count = calls.len() / CALL_BYTES;
+    let settings_distance = settings.len();
+    let calls_distance = calls.len() + settings.len();
+    let mut file = [note, calls, settings].concat();
+    file.extend([net.n as u8, net.m as u8, net.r as u8, kind as u8]);
+    for number in [count, settings_distance, calls_distance] {
+        file.extend([(number >> 8) as u8, number as u8]);
+    }
+    file.extend(MARK);
+    file
+}
+
+/// So many bytes, each filled by its place, so that a byte that is written is seen.
+pub fn filled(length: usize) -> Vec<u8> {
+    (0..length).map(|place| (place * 37 + 163) as u8).collect()
+}
+
+// Drawn inputs.
+
 /// A small source of drawn numbers (splitmix64).
 pub struct Random {
     state: u64,
@@ -129,6 +180,12 @@ impl Random {
     }
 }
 
+/// Inputs drawn one after the other, without end.
+pub fn drawn(seed: u64) -> impl Iterator<Item = Input> {
+    let mut random = Random::seeded(seed);
+    std::iter::repeat_with(move || draw(&mut random))
+}
+
 /// Draws an input of any of the five entries.
 pub fn draw(random: &mut Random) -> Input {
     match random.below(10) {
@@ -143,7 +200,7 @@ pub fn draw(random: &mut Random) -> Input {
 fn draw_plan(random: &mut Random) -> Input {
     let table = draw_table(random);
     let calls = draw_calls_length(random, table.calls);
-    let needed = SETTING_BYTES * (calls.len() / CALL_BYTES);
+    let needed = settings_length(&calls);
     Input::Plan {
         net: draw_sizes(random, table.net),
         calls,
@@ -167,7 +224,7 @@ fn draw_write_calls(random: &mut Random) -> Input {
     let calls = draw_calls_length(random, table.calls);
     let settings = match random.below(12) {
         0 => random.bytes(1),
-        1 => random.bytes(SETTING_BYTES * (calls.len() / CALL_BYTES)),
+        1 => random.bytes(settings_length(&calls)),
         _ => Vec::new(),
     };
     let needed = note.len() + calls.len() + TRAILER_BYTES;
@@ -216,7 +273,7 @@ fn draw_sizes(random: &mut Random, net: Network) -> Network {
     }
     let size = random.below(3);
     let right = [net.n, net.m, net.r][size];
-    let outside = random.pick(&[
+    let other = random.pick(&[
         0,
         16,
         17,
@@ -235,36 +292,33 @@ fn draw_sizes(random: &mut Random, net: Network) -> Network {
         right + (1 << 63),
     ]);
     match size {
-        0 => Network { n: outside, ..net },
-        1 => Network { m: outside, ..net },
-        _ => Network { r: outside, ..net },
+        0 => Network { n: other, ..net },
+        1 => Network { m: other, ..net },
+        _ => Network { r: other, ..net },
     }
+}
+
+/// The bytes as they are; now and then up to so many more, or fewer.
+fn draw_length(random: &mut Random, mut bytes: Vec<u8>, most: usize) -> Vec<u8> {
+    if random.once_in(20) {
+        let difference = random.between(1, most);
+        if random.once_in(2) {
+            bytes.extend(random.bytes(difference));
+        } else {
+            bytes.truncate(bytes.len().saturating_sub(difference));
+        }
+    }
+    bytes
 }
 
 /// Now and then some bytes more or fewer than whole rows.
-fn draw_calls_length(random: &mut Random, mut calls: Vec<u8>) -> Vec<u8> {
-    if random.once_in(20) {
-        let surplus = random.between(1, 3);
-        if random.once_in(2) {
-            calls.extend(random.bytes(surplus));
-        } else {
-            calls.truncate(calls.len().saturating_sub(surplus));
-        }
-    }
-    calls
+fn draw_calls_length(random: &mut Random, calls: Vec<u8>) -> Vec<u8> {
+    draw_length(random, calls, CALL_BYTES - 1)
 }
 
 /// Now and then some bytes more or fewer than 3 for each call.
-fn draw_settings_length(random: &mut Random, mut settings: Vec<u8>) -> Vec<u8> {
-    if random.once_in(20) {
-        let surplus = random.between(1, 4);
-        if random.once_in(2) {
-            settings.extend(random.bytes(surplus));
-        } else {
-            settings.truncate(settings.len().saturating_sub(surplus));
-        }
-    }
-    settings
+fn draw_settings_length(random: &mut Random, settings: Vec<u8>) -> Vec<u8> {
+    draw_length(random, settings, SETTING_BYTES + 1)
 }
 
 /// A room that is exact, one less, more, none, or so large that its length would not do if cut to
@@ -310,13 +364,13 @@ fn draw_note(random: &mut Random) -> Vec<u8> {
 // Call tables.
 
 /// A network within its limits and the bytes of a call table for it, with or without fault.
-pub struct Table {
-    pub net: Network,
-    pub calls: Vec<u8>,
+struct CallTable {
+    net: Network,
+    calls: Vec<u8>,
 }
 
 /// Draws a table of any kind; most are small.
-fn draw_table(random: &mut Random) -> Table {
+fn draw_table(random: &mut Random) -> CallTable {
     match random.below(200) {
         0 => draw_largest(random),
         1 => draw_too_many(random),
@@ -356,11 +410,11 @@ fn draw_network(random: &mut Random) -> Network {
 }
 
 /// Distinct inlets to distinct outlets, well spread: up to 30 of them.
-fn draw_sound(random: &mut Random) -> Table {
+fn draw_sound(random: &mut Random) -> CallTable {
     let net = draw_network(random);
     let most = (net.n * net.r).min(30);
     let wanted = random.between(0, most);
-    Table {
+    CallTable {
         net,
         calls: spread_calls(random, net, wanted),
     }
@@ -378,19 +432,9 @@ pub fn spread_calls(random: &mut Random, net: Network, wanted: usize) -> Vec<u8>
         .collect()
 }
 
-/// The call row from an inlet to an outlet, both by number: module by module, channel by channel.
-fn call_of(net: Network, inlet: usize, outlet: usize) -> [u8; CALL_BYTES] {
-    [
-        (inlet / net.n) as u8,
-        (inlet % net.n) as u8,
-        (outlet / net.n) as u8,
-        (outlet % net.n) as u8,
-    ]
-}
-
 /// Every inlet, or nearly every, of a small network with hardly a central to spare: chains are
 /// frequent.
-fn draw_small_full(random: &mut Random) -> Table {
+fn draw_small_full(random: &mut Random) -> CallTable {
     let n = random.between(1, 4);
     let net = Network {
         n,
@@ -400,8 +444,8 @@ fn draw_small_full(random: &mut Random) -> Table {
     draw_dense(random, net)
 }
 
-/// Every inlet, or nearly every, of a network of any size.
-fn draw_full(random: &mut Random) -> Table {
+/// Every inlet, or nearly every, of a network that may be larger.
+fn draw_full(random: &mut Random) -> CallTable {
     let n = random.between(1, Network::MOST_CHANNELS);
     let net = Network {
         n,
@@ -412,7 +456,7 @@ fn draw_full(random: &mut Random) -> Table {
 }
 
 /// Three quarters to all inlets, in one of several row orders.
-fn draw_dense(random: &mut Random, net: Network) -> Table {
+fn draw_dense(random: &mut Random, net: Network) -> CallTable {
     let inlets = net.n * net.r;
     let wanted = if random.once_in(2) {
         inlets
@@ -420,14 +464,14 @@ fn draw_dense(random: &mut Random, net: Network) -> Table {
         random.between(inlets - inlets / 4, inlets)
     };
     let calls = spread_calls(random, net, wanted);
-    Table {
+    CallTable {
         net,
         calls: draw_row_order(random, calls),
     }
 }
 
 /// The rows as they stand, or sorted by input module, or by output module downwards, or by channel,
-/// or even rows first.
+/// or by input module and then even rows first.
 fn draw_row_order(random: &mut Random, calls: Vec<u8>) -> Vec<u8> {
     let mut rows: Vec<&[u8]> = calls.chunks_exact(CALL_BYTES).collect();
     match random.below(5) {
@@ -445,8 +489,8 @@ fn draw_row_order(random: &mut Random, calls: Vec<u8>) -> Vec<u8> {
     rows.concat()
 }
 
-/// The largest network, 1,023 or 1,024 calls.
-fn draw_largest(random: &mut Random) -> Table {
+/// The most channels and the most modules, 1,023 or 1,024 calls.
+fn draw_largest(random: &mut Random) -> CallTable {
     let net = Network {
         n: 16,
         m: random.pick(&[16, 17, 32]),
@@ -454,14 +498,14 @@ fn draw_largest(random: &mut Random) -> Table {
     };
     let wanted = random.between(Network::MOST_ROWS - 1, Network::MOST_ROWS);
     let calls = spread_calls(random, net, wanted);
-    Table {
+    CallTable {
         net,
         calls: draw_row_order(random, calls),
     }
 }
 
 /// More than 1,024 rows; now and then so many that K would do if cut to 16 bits, or to 8.
-fn draw_too_many(random: &mut Random) -> Table {
+fn draw_too_many(random: &mut Random) -> CallTable {
     let net = Network {
         n: 16,
         m: 32,
@@ -479,57 +523,51 @@ fn draw_too_many(random: &mut Random) -> Table {
         calls.extend(again);
     }
     calls.truncate(CALL_BYTES * count);
-    Table { net, calls }
+    CallTable { net, calls }
 }
 
 /// One module of either side has more calls than there are centrals.
-fn draw_overfull(random: &mut Random) -> Table {
+fn draw_overfull(random: &mut Random) -> CallTable {
     let n = random.between(2, 6);
     let net = Network {
         n,
         m: random.between(1, n - 1),
         r: random.between(1, 6),
     };
-    let most = net.n * net.r;
-    let inlets = random.order(most);
-    let outlets = random.order(most);
+    let full = spread_calls(random, net, net.n * net.r);
     let module = random.below(net.r);
-    let at_input = random.once_in(2);
-    let mut rows: Vec<[u8; CALL_BYTES]> = inlets
-        .iter()
-        .zip(&outlets)
-        .map(|(&inlet, &outlet)| call_of(net, inlet, outlet))
+    let side = if random.once_in(2) { 0 } else { 2 };
+    let mut rows: Vec<&[u8]> = full
+        .chunks_exact(CALL_BYTES)
+        .filter(|row| usize::from(row[side]) == module)
+        .take(net.m + 1)
         .collect();
-    rows.retain(|row| usize::from(row[if at_input { 0 } else { 2 }]) == module);
-    rows.truncate(net.m + 1);
     let further = random.between(0, 4);
-    let free: Vec<[u8; CALL_BYTES]> = inlets
-        .iter()
-        .zip(&outlets)
-        .map(|(&inlet, &outlet)| call_of(net, inlet, outlet))
+    let others: Vec<&[u8]> = full
+        .chunks_exact(CALL_BYTES)
         .filter(|row| !rows.contains(row))
         .take(further)
         .collect();
-    rows.extend(free);
+    rows.extend(others);
     random.shuffle(&mut rows);
-    Table {
+    CallTable {
         net,
         calls: rows.concat(),
     }
 }
 
-/// Rows of any bytes, or of bytes that are small.
-fn draw_random_bytes(random: &mut Random) -> Table {
+/// Bytes of any value, or small ones; not always whole rows.
+fn draw_random_bytes(random: &mut Random) -> CallTable {
     let length = random.between(0, 60);
-    let highest = random.pick(&[2, 4, 64, 256]);
-    Table {
+    let limit = random.pick(&[2, 4, 64, 256]);
+    CallTable {
         net: draw_network(random),
-        calls: (0..length).map(|_| random.below(highest) as u8).collect(),
+        calls: (0..length).map(|_| random.below(limit) as u8).collect(),
     }
 }
 
 /// Puts one or two faults into a table: a number outside, a repeated inlet, a repeated outlet.
-fn spoil_calls(random: &mut Random, table: &mut Table) {
+fn spoil_calls(random: &mut Random, table: &mut CallTable) {
     let count = table.calls.len() / CALL_BYTES;
     if count < 2 {
         return;
@@ -553,87 +591,12 @@ fn spoil_calls(random: &mut Random, table: &mut Table) {
     }
 }
 
-// Ladders: call tables made so that chains are long.
+// Ladders and paths.
 
-/// Calls by pairs of an input module and an output module; a call takes the next channel of each.
-/// Pairs beyond the channels of a module are not to be given.
-pub fn calls_of_pairs(pairs: &[(usize, usize)]) -> Vec<u8> {
-    let mut at_inputs = [0u8; 256];
-    let mut at_outputs = [0u8; 256];
-    let mut calls = Vec::new();
-    for &(input_module, output_module) in pairs {
-        calls.extend([
-            input_module as u8,
-            at_inputs[input_module],
-            output_module as u8,
-            at_outputs[output_module],
-        ]);
-        at_inputs[input_module] += 1;
-        at_outputs[output_module] += 1;
-    }
-    calls
-}
-
-/// A ladder with two calls at each module, where the number of modules is 1 more than a multiple of
-/// 3: a path of calls on two centrals in turn, to whose end at an output module each step joins a
-/// shorter path. The joining call finds the two ends without a common free central, so the chain
-/// runs over the whole path built before it.
-pub fn ladder(modules: usize) -> Vec<(usize, usize)> {
-    let mut pairs = vec![(0, 0)];
-    let mut end = 0;
-    let mut next = 1;
-    while next + 3 <= modules {
-        // The end is on the lower central: a path of three calls, of which the middle one is on the
-        // lower.
-        pairs.extend([(next, next), (next + 1, next), (next, next + 1)]);
-        pairs.push((next + 1, end));
-        // Now the end is on the upper central: a single call, on the lower.
-        pairs.push((next + 2, next + 2));
-        pairs.push((next + 2, next + 1));
-        end = next + 2;
-        next += 3;
-    }
-    // The path is closed to a ring, so that every module has two calls.
-    pairs.push((0, end));
-    pairs
-}
-
-/// A path of calls to and fro, on two centrals in turn, from output module 0 over all but two input
-/// modules, and then a call to output module 0 from an input module that has its one call on the
-/// upper central: one chain over the path.
-pub fn path(modules: usize) -> Vec<(usize, usize)> {
-    let last = modules - 1;
-    let mut pairs = Vec::new();
-    for module in 0..modules - 2 {
-        pairs.push((module, module));
-        pairs.push((module, module + 1));
-    }
-    pairs.extend([(last - 1, last), (last, last)]);
-    pairs.push((last, 0));
-    pairs
-}
-
-/// So many rounds with one call at each module, which take the lowest centrals one after the other,
-/// and then a ladder, which has the next two for itself if there are no others. The modules are
-/// renamed by the orders given.
-pub fn rounds_and_ladder(rounds: usize, inputs: &[usize], outputs: &[usize]) -> Vec<u8> {
-    let modules = inputs.len();
-    let mut pairs = Vec::new();
-    for round in 0..rounds {
-        pairs.extend((0..modules).map(|module| (module, (module + round) % modules)));
-    }
-    pairs.extend(ladder(modules));
-    let renamed: Vec<(usize, usize)> = pairs
-        .iter()
-        .map(|&(input, output)| (inputs[input], outputs[output]))
-        .collect();
-    calls_of_pairs(&renamed)
-}
-
-fn draw_rounds_and_ladder(random: &mut Random, rounds: usize, modules: usize) -> Table {
+fn draw_rounds_and_ladder(random: &mut Random, rounds: usize, modules: usize) -> CallTable {
     let inputs = random.order(modules);
     let outputs = random.order(modules);
-    Table {
+    CallTable {
         net: Network {
             n: rounds + 2,
             m: rounds + 2,
@@ -644,21 +607,21 @@ fn draw_rounds_and_ladder(random: &mut Random, rounds: usize, modules: usize) ->
 }
 
 /// A ladder after few rounds or none.
-fn draw_ladder(random: &mut Random) -> Table {
+fn draw_ladder(random: &mut Random) -> CallTable {
     let modules = 1 + 3 * random.between(1, 21);
     let rounds = random.pick(&[0, 0, 0, 1, 2]);
     draw_rounds_and_ladder(random, rounds, modules)
 }
 
 /// A ladder after as many rounds as the largest network takes: 1,024 calls.
-fn draw_largest_ladder(random: &mut Random) -> Table {
+fn draw_largest_ladder(random: &mut Random) -> CallTable {
     draw_rounds_and_ladder(random, 14, 64)
 }
 
 /// A path and the call that joins its ends.
-fn draw_path(random: &mut Random) -> Table {
+fn draw_path(random: &mut Random) -> CallTable {
     let modules = random.between(3, Network::MOST_MODULES);
-    Table {
+    CallTable {
         net: Network {
             n: random.pick(&[2, 3]),
             m: 2,
@@ -672,9 +635,9 @@ fn draw_path(random: &mut Random) -> Table {
 
 /// The planner's settings where it gives some, otherwise guessed ones; then damaged in no row, in
 /// one, or in two, or twice in one row.
-fn draw_settings(random: &mut Random, table: &Table) -> Vec<u8> {
+fn draw_settings(random: &mut Random, table: &CallTable) -> Vec<u8> {
     let count = table.calls.len() / CALL_BYTES;
-    let mut settings = vec![0; SETTING_BYTES * count];
+    let mut settings = vec![0; settings_length(&table.calls)];
     if Plain.plan(table.net, &table.calls, &mut settings).number != 0 {
         settings = guessed_settings(random, table);
     }
@@ -695,7 +658,7 @@ fn draw_settings(random: &mut Random, table: &Table) -> Vec<u8> {
 }
 
 /// Each call through a drawn central.
-fn guessed_settings(random: &mut Random, table: &Table) -> Vec<u8> {
+fn guessed_settings(random: &mut Random, table: &CallTable) -> Vec<u8> {
     table
         .calls
         .chunks_exact(CALL_BYTES)
@@ -703,18 +666,8 @@ fn guessed_settings(random: &mut Random, table: &Table) -> Vec<u8> {
         .collect()
 }
 
-/// The settings row that a call needs on a central.
-pub fn setting_of(net: Network, call: &[u8], central: usize) -> [u8; SETTING_BYTES] {
-    let cycle = net.cycle();
-    [
-        ((usize::from(call[0]) + central) % cycle) as u8,
-        central as u8,
-        ((central + usize::from(call[2])) % cycle) as u8,
-    ]
-}
-
 /// Damages a settings row so that one of 9 to 13 is likely to hold of it.
-fn damage_setting(random: &mut Random, table: &Table, settings: &mut [u8], row: usize) {
+fn damage_setting(random: &mut Random, table: &CallTable, settings: &mut [u8], row: usize) {
     let cycle = table.net.cycle();
     let setting = &mut settings[SETTING_BYTES * row..SETTING_BYTES * (row + 1)];
     match random.below(8) {
@@ -740,7 +693,7 @@ fn damage_setting(random: &mut Random, table: &Table, settings: &mut [u8], row: 
 /// wavelengths are kept or set right.
 fn borrow_central(
     random: &mut Random,
-    table: &Table,
+    table: &CallTable,
     settings: &mut [u8],
     row: usize,
     side: usize,
@@ -762,21 +715,6 @@ fn borrow_central(
 }
 
 // Files.
-
-/// A file as the document lays it out, without any check; numbers too large for their bytes are
-/// cut.
-pub fn file_of(kind: usize, net: Network, note: &[u8], calls: &[u8], settings: &[u8]) -> Vec<u8> {
-    let count = calls.len() / CALL_BYTES;
-    let settings_distance = settings.len();
-    let calls_distance = calls.len() + settings.len();
-    let mut file = [note, calls, settings].concat();
-    file.extend([net.n as u8, net.m as u8, net.r as u8, kind as u8]);
-    for number in [count, settings_distance, calls_distance] {
-        file.extend([(number >> 8) as u8, number as u8]);
-    }
-    file.extend(MARK);
-    file
-}
 
 /// A file of either kind with or without faults in its rows, then damaged half of the time.
 fn draw_file(random: &mut Random) -> Vec<u8> {
@@ -801,7 +739,7 @@ const SETTINGS_DISTANCE_AT: usize = 6;
 const CALLS_DISTANCE_AT: usize = 8;
 const MARK_AT: usize = 10;
 
-/// Cuts a file, changes bytes of its trailer, or makes its note too long.
+/// Cuts a file, changes bytes of its trailer, or puts bytes before it or after it.
 fn damage_file(random: &mut Random, file: &mut Vec<u8>) {
     let length = file.len();
     let trailer_at = length - TRAILER_BYTES;
@@ -840,7 +778,7 @@ fn step_number(random: &mut Random, file: &mut [u8], at: usize) {
     file[at..at + 2].copy_from_slice(&stepped.to_be_bytes());
 }
 
-/// Puts bytes before a file so that its note has 256 bytes or more, if it had none.
+/// Puts so many bytes before a file that its note is too long, or just not if it had none.
 fn lengthen_note(random: &mut Random, file: &mut Vec<u8>) {
     let surplus = random.pick(&[255, 256, 257, 512]);
     let mut longer = random.bytes(surplus);

@@ -1,20 +1,28 @@
 //! Independent answers to the five entries of the shelf's control, the text of its listing program,
 //! and the means to compare two implementations of the entries.
 //!
-//! Everything here is written from the scope document alone: its sentences, its table of numbers
+//! Every answer here is written from the scope document alone: its sentences, its table of numbers
 //! and its bench table.
+//!
+//! Answers: `plain.rs`, and for speed `swift.rs`. Judgements beside them: `light.rs` and
+//! `refusals.rs`. Inputs: `inputs.rs`, `ladders.rs` and `faulty.rs`. Stored inputs: which, in
+//! `catalogue.rs`, and how, in `stored_form.rs`. The library, and the comparison: `library.rs`,
+//! `functions.rs` and `comparison.rs`. Time and stack: `tables.rs` and `stack.rs`.
 
+pub mod catalogue;
 pub mod comparison;
+pub mod faulty;
 #[cfg(feature = "library")]
 pub mod functions;
 pub mod inputs;
+pub mod ladders;
 #[cfg(feature = "library")]
 pub mod library;
 pub mod light;
-pub mod pairs;
 pub mod plain;
+pub mod refusals;
 pub mod stack;
-pub mod stored;
+pub mod stored_form;
 pub mod swift;
 pub mod tables;
 
@@ -62,6 +70,16 @@ pub const KIND_PLANNED: usize = 2;
 /// trailer.
 pub const LONGEST_FILE: usize =
     LONGEST_NOTE + (CALL_BYTES + SETTING_BYTES) * Network::MOST_ROWS + TRAILER_BYTES;
+
+/// The highest number of a refusal.
+pub const HIGHEST_NUMBER: usize = 16;
+
+/// A refusal: its number, and the row it tells.
+#[derive(Clone, Copy, PartialEq, Eq, Debug)]
+pub struct Refusal {
+    pub number: usize,
+    pub row: usize,
+}
 
 /// The answer of acceptance and of the two writers.
 #[derive(Clone, Copy, PartialEq, Eq, Default, Debug)]

@@ -3,8 +3,8 @@
 //! comes before speed.
 
 use crate::{
-    Entries, Network, Planned, Told, Verdict, CALL_BYTES, KIND_CALLS, KIND_PLANNED, LONGEST_FILE,
-    LONGEST_NOTE, MARK, SETTING_BYTES, TRAILER_BYTES,
+    Entries, Network, Planned, Refusal, Told, Verdict, CALL_BYTES, KIND_CALLS, KIND_PLANNED,
+    LONGEST_FILE, LONGEST_NOTE, MARK, SETTING_BYTES, TRAILER_BYTES,
 };
 
 /// The reference implementation.
@@ -40,14 +40,7 @@ impl Entries for Plain {
             Err(refusal) => Told {
                 number: refusal.number,
                 row: refusal.row,
-                n: 0,
-                m: 0,
-                r: 0,
-                kind: 0,
-                count: 0,
-                note_at: 0,
-                calls_at: 0,
-                settings_at: 0,
+                ..Told::default()
             },
         }
     }
@@ -73,13 +66,6 @@ impl Entries for Plain {
     ) -> Verdict {
         verdict(try_write(KIND_PLANNED, net, note, calls, settings, out))
     }
-}
-
-/// A refusal: its number, and the row it tells.
-#[derive(Clone, Copy)]
-struct Refusal {
-    number: usize,
-    row: usize,
 }
 
 /// A call row. Its inlet is (input_module, input_channel), its outlet (output_module,

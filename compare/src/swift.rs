@@ -3,8 +3,8 @@
 //! so far from row 0 up, and marks for inlets, outlets and pairs. Everything stands on the stack.
 
 use crate::{
-    Entries, Network, Planned, Told, Verdict, CALL_BYTES, KIND_CALLS, KIND_PLANNED, LONGEST_NOTE,
-    MARK, SETTING_BYTES, TRAILER_BYTES,
+    Entries, Network, Planned, Refusal, Told, Verdict, CALL_BYTES, KIND_CALLS, KIND_PLANNED,
+    LONGEST_NOTE, MARK, SETTING_BYTES, TRAILER_BYTES,
 };
 
 /// The swift implementation.
@@ -69,13 +69,6 @@ impl Entries for Swift {
     ) -> Verdict {
         into_verdict(write(KIND_PLANNED, net, note, calls, settings, out))
     }
-}
-
-/// A refusal: its number, and the row it tells.
-#[derive(Clone, Copy)]
-struct Refusal {
-    number: usize,
-    row: usize,
 }
 
 fn refuse<T>(number: usize, row: usize) -> Result<T, Refusal> {

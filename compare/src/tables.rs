@@ -1,9 +1,9 @@
 //! The tables on which implementations are timed, and the calls that are timed on each.
 
-use crate::inputs::{calls_of_pairs, file_of, ladder, spread_calls, Random};
-use crate::stored::largest_ladder;
+use crate::inputs::{call_of, file_of, settings_length, spread_calls, Random};
+use crate::ladders::{calls_of_pairs, ladder, largest_ladder, LARGEST_TIGHT};
 use crate::swift::Swift;
-use crate::{Entries, Network, CALL_BYTES, KIND_CALLS, KIND_PLANNED, SETTING_BYTES};
+use crate::{Entries, Network, CALL_BYTES, KIND_CALLS, KIND_PLANNED};
 
 /// A table with the settings that the planner gives it, how many calls it moves, and both files.
 pub struct Table {
@@ -18,13 +18,6 @@ pub struct Table {
 
 const NOTE: [u8; 16] = *b"benchmark's note";
 
-/// The largest network with as many centrals as channels.
-const FULL: Network = Network {
-    n: 16,
-    m: 16,
-    r: 64,
-};
-
 /// More centrals than a module has channels.
 const SPREAD: Network = Network {
     n: 16,
@@ -36,7 +29,7 @@ const NARROW: Network = Network { n: 2, m: 2, r: 64 };
 
 impl Table {
     fn new(name: &'static str, net: Network, calls: Vec<u8>) -> Table {
-        let mut settings = vec![0; SETTING_BYTES * (calls.len() / CALL_BYTES)];
+        let mut settings = vec![0; settings_length(&calls)];
         let planned = Swift.plan(net, &calls, &mut settings);
         assert_eq!(planned.number, 0, "{} can be planned", name);
         Table {
@@ -61,9 +54,13 @@ impl Table {
 pub fn tables() -> [Table; 4] {
     let spread = spread_calls(&mut Random::seeded(3), SPREAD, 1024);
     [
-        Table::new("random full 16-16-64", FULL, full_calls(1)),
+        Table::new("random full 16-16-64", LARGEST_TIGHT, full_calls(1)),
         Table::new("ladder 2-2-64", NARROW, calls_of_pairs(&ladder(64))),
-        Table::new("rounds and ladder 16-16-64", FULL, largest_ladder()),
+        Table::new(
+            "rounds and ladder 16-16-64",
+            LARGEST_TIGHT,
+            largest_ladder(),
+        ),
         Table::new("spread 16-32-64", SPREAD, spread),
     ]
 }
@@ -72,7 +69,7 @@ pub fn tables() -> [Table; 4] {
 pub fn growing(count: usize) -> Table {
     let mut calls = full_calls(2);
     calls.truncate(CALL_BYTES * count);
-    Table::new("first rows of a random full 16-16-64", FULL, calls)
+    Table::new("first rows of a random full 16-16-64", LARGEST_TIGHT, calls)
 }
 
 /// Every channel of every module in use, in a drawn order.
@@ -83,8 +80,7 @@ fn full_calls(seed: u64) -> Vec<u8> {
     inlets
         .iter()
         .zip(&outlets)
-        .flat_map(|(inlet, outlet)| [inlet / 16, inlet % 16, outlet / 16, outlet % 16])
-        .map(|number| number as u8)
+        .flat_map(|(&inlet, &outlet)| call_of(LARGEST_TIGHT, inlet, outlet))
         .collect()
 }
 

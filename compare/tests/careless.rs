@@ -2,7 +2,7 @@
 //! one on drawn inputs.
 
 use compare::comparison::{compare_all, Difference};
-use compare::inputs::{draw, Random};
+use compare::inputs::drawn;
 use compare::plain::Plain;
 use compare::{Entries, Network, Planned, Told, Verdict};
 
@@ -118,8 +118,9 @@ impl Entries for Careless {
 
 /// The first difference from the plain implementation on drawn inputs.
 fn first_found(careless: &Careless) -> Option<Difference> {
-    let mut random = Random::seeded(21);
-    (0..DRAWN).find_map(|_| compare_all(&Plain, careless, &draw(&mut random)).err())
+    drawn(21)
+        .take(DRAWN)
+        .find_map(|input| compare_all(&Plain, careless, &input).err())
 }
 
 fn assert_found(careless: &Careless, what: &str) {
@@ -151,8 +152,7 @@ fn wrong_answers_are_found() {
 
 #[test]
 fn no_difference_is_found_where_there_is_none() {
-    let mut random = Random::seeded(22);
-    for _ in 0..DRAWN / 10 {
-        compare_all(&Plain, &Plain, &draw(&mut random)).expect("one answers like itself");
+    for input in drawn(22).take(DRAWN / 10) {
+        compare_all(&Plain, &Plain, &input).expect("one answers like itself");
     }
 }

@@ -1,9 +1,10 @@
 //! Swift against Plain, on drawn inputs and on every small one.
 
 use compare::comparison::{compare_all, compare_exhaustively, Coverage};
-use compare::inputs::{draw, Entry, Random};
+use compare::inputs::{drawn, Entry};
 use compare::plain::Plain;
 use compare::swift::Swift;
+use compare::HIGHEST_NUMBER;
 
 /// Fewer inputs where the code is compiled without speed.
 const DRAWN: usize = if cfg!(debug_assertions) {
@@ -26,7 +27,7 @@ const GIVEN: [(Entry, &[usize]); 5] = [
 
 fn print_coverage(coverage: &Coverage) {
     for entry in Entry::ALL {
-        let counts: Vec<String> = (0..=16)
+        let counts: Vec<String> = (0..=HIGHEST_NUMBER)
             .filter(|&number| coverage.count(entry, number) > 0)
             .map(|number| format!("{}: {}", number, coverage.count(entry, number)))
             .collect();
@@ -37,16 +38,14 @@ fn print_coverage(coverage: &Coverage) {
 
 #[test]
 fn drawn_inputs() {
-    let mut random = Random::seeded(1);
     let mut coverage = Coverage::default();
-    for _ in 0..DRAWN {
-        let input = draw(&mut random);
+    for input in drawn(1).take(DRAWN) {
         let seen = compare_all(&Plain, &Swift, &input).expect("both answer alike");
         coverage.add(seen);
     }
     print_coverage(&coverage);
     for (entry, numbers) in GIVEN {
-        for number in 0..=16 {
+        for number in 0..=HIGHEST_NUMBER {
             assert_eq!(
                 coverage.count(entry, number) > 0,
                 numbers.contains(&number),

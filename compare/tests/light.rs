@@ -2,7 +2,8 @@
 //! exactly when they are lawful, and lawful settings are planned exactly where no module has more
 //! calls than there are centrals.
 
-use compare::inputs::{calls_of_pairs, draw, Input, Random};
+use compare::inputs::{call_of, drawn, settings_length, Input};
+use compare::ladders::calls_of_pairs;
 use compare::light::{follow, lawful, shared, Link};
 use compare::plain::Plain;
 use compare::{Entries, Network, CALL_BYTES, SETTING_BYTES};
@@ -15,12 +16,7 @@ const DRAWN: usize = if cfg!(debug_assertions) {
 };
 
 /// The highest r tried with two rows of settings, and with three.
-const MOST_MODULES: usize = if cfg!(debug_assertions) { 2 } else { 3 };
-
-fn drawn(seed: u64) -> impl Iterator<Item = Input> {
-    let mut random = Random::seeded(seed);
-    (0..DRAWN).map(move |_| draw(&mut random))
-}
+const HIGHEST_R: usize = if cfg!(debug_assertions) { 2 } else { 3 };
 
 // Everything small.
 
@@ -62,8 +58,7 @@ fn all_calls(net: Network) -> Vec<[u8; CALL_BYTES]> {
     let mut calls = Vec::new();
     for inlet in 0..net.n * net.r {
         for outlet in 0..net.n * net.r {
-            let numbers = [inlet / net.n, inlet % net.n, outlet / net.n, outlet % net.n];
-            calls.push(numbers.map(|number| number as u8));
+            calls.push(call_of(net, inlet, outlet));
         }
     }
     calls
@@ -125,7 +120,7 @@ fn two_rows_are_accepted_when_their_light_stays_apart() {
     let most = Network {
         n: 2,
         m: 3,
-        r: MOST_MODULES,
+        r: HIGHEST_R,
     };
     for net in networks(most) {
         let settings = all_settings(2, net.cycle() + 1);
@@ -217,7 +212,7 @@ fn light_that_meets_has_met_before() {
 fn drawn_settings_are_accepted_when_they_are_lawful() {
     let mut accepted = 0;
     let mut refused = 0;
-    for input in drawn(11) {
+    for input in drawn(11).take(DRAWN) {
         if let Input::Accept {
             net,
             calls,
@@ -258,9 +253,9 @@ fn is_overfull(net: Network, calls: &[u8]) -> bool {
 #[test]
 fn planned_settings_are_lawful_unless_a_module_is_overfull() {
     let mut planned = 0;
-    for input in drawn(12) {
+    for input in drawn(12).take(DRAWN) {
         if let Input::Plan { net, calls, .. } = input {
-            let mut settings = vec![0; SETTING_BYTES * (calls.len() / CALL_BYTES)];
+            let mut settings = vec![0; settings_length(&calls)];
             match Plain.plan(net, &calls, &mut settings).number {
                 0 => {
                     assert!(!is_overfull(net, &calls));
@@ -293,7 +288,7 @@ fn tables_by_modules(rows: usize, modules: usize) -> Vec<Vec<u8>> {
 /// row with another number is unlawful by itself.
 #[test]
 fn no_settings_of_an_overfull_table_are_lawful() {
-    for (m, most_modules) in [(1, 3), (2, MOST_MODULES)] {
+    for (m, most_modules) in [(1, 3), (2, HIGHEST_R)] {
         for r in 1..=most_modules {
             let net = Network { n: m + 1, m, r };
             let settings = all_settings(m + 1, net.cycle());

@@ -1,9 +1,9 @@
 //! Independent checks of the plain implementation: the moved count is counted from outside, and
 //! files go to and fro. What the light does is checked in `light.rs`.
 
-use compare::inputs::{calls_of_pairs, draw, ladder, path, Input, Random};
+use compare::inputs::{drawn, Input};
+use compare::ladders::{calls_of_pairs, ladder, largest_ladder, path, LARGEST_TIGHT};
 use compare::plain::{chain_lengths, Plain};
-use compare::stored::largest_ladder;
 use compare::{Entries, Network};
 
 /// Fewer inputs where the code is compiled without speed.
@@ -12,11 +12,6 @@ const DRAWN: usize = if cfg!(debug_assertions) {
 } else {
     60_000
 };
-
-fn drawn(seed: u64) -> impl Iterator<Item = Input> {
-    let mut random = Random::seeded(seed);
-    (0..DRAWN).map(move |_| draw(&mut random))
-}
 
 // The moved count.
 
@@ -41,7 +36,7 @@ fn moved_from_outside(net: Network, calls: &[u8]) -> usize {
 #[test]
 fn moved_counts_the_rows_that_change() {
     let mut counted = 0;
-    for input in drawn(13) {
+    for input in drawn(13).take(DRAWN) {
         if let Input::Plan { net, calls, .. } = input {
             let mut settings = vec![0; 3 * (calls.len() / 4)];
             let answer = Plain.plan(net, &calls, &mut settings);
@@ -62,12 +57,7 @@ fn chains_are_long_where_they_are_meant_to_be() {
     assert_eq!(growing.len(), 42);
     assert!(growing.windows(2).all(|two| two[0] < two[1]));
     assert_eq!(growing[41], 125);
-    let largest = Network {
-        n: 16,
-        m: 16,
-        r: 64,
-    };
-    assert_eq!(chain_lengths(largest, &largest_ladder()), growing);
+    assert_eq!(chain_lengths(LARGEST_TIGHT, &largest_ladder()), growing);
 }
 
 // Files.
@@ -75,7 +65,7 @@ fn chains_are_long_where_they_are_meant_to_be() {
 #[test]
 fn files_read_and_written_again_are_the_same() {
     let mut read = 0;
-    for input in drawn(14) {
+    for input in drawn(14).take(DRAWN) {
         if let Input::Read { file } = input {
             let told = Plain.read(&file);
             if told.number == 0 {
@@ -120,7 +110,7 @@ fn assert_told(kind: usize, net: Network, parts: [&[u8]; 3], out: &[u8]) {
 
 #[test]
 fn files_written_and_read_tell_what_was_written() {
-    for input in drawn(15) {
+    for input in drawn(15).take(DRAWN) {
         match input {
             Input::WriteCalls {
                 net,

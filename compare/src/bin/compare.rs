@@ -5,6 +5,7 @@ use compare::comparison::{compare_all, compare_exhaustively, Coverage, Differenc
 use compare::inputs::{draw, Entry, Random};
 use compare::library::Library;
 use compare::plain::Plain;
+use compare::HIGHEST_NUMBER;
 
 fn main() {
     let arguments: Vec<String> = std::env::args().skip(1).collect();
@@ -47,7 +48,7 @@ fn compare_many(seed: u64, count: u64) -> Result<usize, Difference> {
 
 /// The numbers that an entry answered, each with how often.
 fn numbers_seen(small: &Coverage, drawn: &Coverage, entry: Entry) -> String {
-    let words: Vec<String> = (0..=16)
+    let words: Vec<String> = (0..=HIGHEST_NUMBER)
         .map(|number| {
             (
                 number,

@@ -1,9 +1,9 @@
 //! Writes COUNT drawn inputs and their answers as the files `many.in` and `many.out` of a
-//! directory. Inputs with a length that doesn't fit two bytes are drawn anew, and a file to be read
-//! is now and then listed instead.
+//! directory. Inputs with a length that doesn't fit two bytes are drawn anew, and of the files to be
+//! read one in two is listed instead.
 
 use compare::inputs::{draw, Input, Random};
-use compare::stored::{stored_answer, stored_input, Stored};
+use compare::stored_form::{stored_answer, stored_input, Stored};
 use std::fs::File;
 use std::io::{BufWriter, Write};
 use std::path::Path;
@@ -45,6 +45,6 @@ fn write_many(seed: u64, count: usize, directory: &Path) -> std::io::Result<()> 
 fn draw_stored(random: &mut Random) -> Stored {
     match draw(random) {
         Input::Read { file } if random.once_in(2) => Stored::List { file },
-        input => Stored::Asked(input),
+        input => Stored::Input(input),
     }
 }

@@ -1,6 +1,7 @@
 //! Writes the stored inputs and their answers as the files `stdin` and `stdout` of a directory.
 
-use compare::stored::{stored_files, stored_inputs};
+use compare::catalogue::stored_inputs;
+use compare::stored_form::stored_files;
 use std::path::Path;
 
 fn main() -> std::io::Result<()> {

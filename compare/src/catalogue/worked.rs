@@ -1,11 +1,9 @@
-//! Inputs whose answers can be worked out by hand.
+//! Inputs whose answers can be worked out by hand, and in the tests those answers. The inputs are
+//! written out here, many of them of case 4 and the example file.
 
-use super::{
-    accept, example_file, network, plan, planned, read_of, settings_length, write_calls,
-    write_planned, CASE_4,
-};
-use crate::inputs::Input;
-use crate::pairs::filled;
+use super::builders::{accept, network, plan, planned, read, read_of, write_calls, write_planned};
+use super::from_documents::{example_file, CASE_4};
+use crate::inputs::{filled, settings_length, Input};
 use crate::{
     Network, CALL_BYTES, KIND_CALLS, KIND_PLANNED, LONGEST_NOTE, MARK, SETTING_BYTES, TRAILER_BYTES,
 };
@@ -89,10 +87,6 @@ fn trailer(sizes_and_kind: [u8; 4], count: u16, settings: u16, calls: u16) -> Ve
     }
     file.extend(MARK);
     file
-}
-
-fn read(file: Vec<u8>) -> Input {
-    Input::Read { file }
 }
 
 fn reads() -> Vec<Input> {

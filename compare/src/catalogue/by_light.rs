@@ -1,6 +1,7 @@
-//! Inputs for acceptance by what their light does.
+//! Inputs for acceptance, chosen by what their light does. They are written out here; the tests
+//! follow their light by `light.rs` and ask `plain.rs` for its verdict.
 
-use super::{accept, network};
+use super::builders::{accept, network};
 use crate::inputs::Input;
 
 /// Light that is lost, that arrives elsewhere, and that meets other light: on each set of kinds of
@@ -8,7 +9,7 @@ use crate::inputs::Input;
 /// a module outside. Light that meets on `second grating to output module` has met on `central to
 /// second grating` before, since q and y name p, the one central with p = [y − q]. So no two rows
 /// collide on the last kind of link alone.
-pub fn light() -> Vec<Input> {
+pub fn by_light() -> Vec<Input> {
     [
         one_row(),
         two_rows(),
@@ -197,7 +198,7 @@ mod tests {
 
     #[test]
     fn light_does_what_is_claimed() {
-        let inputs = light();
+        let inputs = by_light();
         assert_eq!(inputs.len(), CLAIMS.len());
         for (input, (ends, links, answer)) in inputs.iter().zip(CLAIMS) {
             let paths = paths_of(input);

@@ -1,13 +1,17 @@
-//! Files for the listing program.
+//! Files for the listing program. They are laid out by `inputs.rs`, of tables that other groups have
+//! too, and the refused ones are made by `faulty.rs`.
 
-use super::{example_file, largest_ladder, network, planned, LARGEST, TABLE_ONE};
-use crate::inputs::{file_of, setting_of, Input};
-use crate::pairs::{filled, input_with, Asked, Fault};
+use super::builders::{network, planned};
+use super::from_documents::{example_file, TABLE_ONE};
+use crate::faulty::{input_with, Fault};
+use crate::inputs::{file_of, filled, setting_of, Input};
+use crate::ladders::{largest_ladder, LARGEST_TIGHT};
+use crate::refusals::Asked;
 use crate::{Network, CALL_BYTES, KIND_CALLS, KIND_PLANNED, LONGEST_FILE, LONGEST_NOTE};
 
 /// Files of both kinds that are listed, small and large; each refusal, by the reader and by the
 /// planner; and files around the greatest length.
-pub fn listings() -> Vec<Vec<u8>> {
+pub fn listed_files() -> Vec<Vec<u8>> {
     [
         small_files(),
         counts_of_more_digits(),
@@ -52,12 +56,15 @@ fn small_files() -> Vec<Vec<u8>> {
     ]
 }
 
-/// The first rows of a full table, where K, or the last row, is the first number of its digits.
+/// Numbers of rows for which K, or the last row, is the first number of its digits, and those before.
+const COUNTS: [usize; 9] = [9, 10, 11, 99, 100, 101, 999, 1000, 1001];
+
+/// So many first rows of a full table.
 fn counts_of_more_digits() -> Vec<Vec<u8>> {
     let calls = largest_ladder();
-    [9, 10, 11, 99, 100, 101, 999, 1000, 1001]
+    COUNTS
         .iter()
-        .map(|count| calls_file(LARGEST, &calls[..CALL_BYTES * count]))
+        .map(|count| calls_file(LARGEST_TIGHT, &calls[..CALL_BYTES * count]))
         .collect()
 }
 
@@ -77,13 +84,13 @@ fn longest_file() -> Vec<u8> {
     file_of(KIND_PLANNED, net, &filled(LONGEST_NOTE), &calls, &settings)
 }
 
-/// Full tables, calls only and planned, and files that are too long: by one byte in front of the
-/// longest, by many, and with nothing in them that could be a trailer.
+/// Full tables, calls only and planned; files that are too long, by one byte in front of the longest
+/// and by many; and bytes without a trailer, as many as the longest file has and one more.
 fn large_files() -> Vec<Vec<u8>> {
     let longest = longest_file();
     let beyond = 8000 - longest.len();
     vec![
-        calls_file(LARGEST, &largest_ladder()),
+        calls_file(LARGEST_TIGHT, &largest_ladder()),
         longest.clone(),
         [filled(1), longest.clone()].concat(),
         [filled(beyond), longest].concat(),
@@ -146,10 +153,7 @@ mod tests {
 
     #[test]
     fn counts_and_rows_have_as_many_digits_as_they_need() {
-        for (file, count) in counts_of_more_digits()
-            .iter()
-            .zip([9, 10, 11, 99, 100, 101, 999, 1000, 1001])
-        {
+        for (file, count) in counts_of_more_digits().iter().zip(COUNTS) {
             let (first, last, lines) = outline(file);
             assert!(first.starts_with(&format!("16 16 64 {} ", count)));
             assert!(last.starts_with(&format!("{} ", count - 1)));

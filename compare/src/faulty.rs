@@ -1,47 +1,17 @@
-//! Inputs made to have named faults, so that the answer shows which refusal is tried first.
+//! Inputs made to have named faults, so that the answer shows which refusal is tried first. They are
+//! made of the parts of `inputs.rs`, and the faults are named by the numbers of `refusals.rs`.
 //!
 //! A fault that is sought in rows is made by a few rows at modules of their own, so the faults of
 //! one input do not touch each other, and the order of these groups of rows is the order in which
 //! the faults stand in the table.
 
-use crate::inputs::{file_of, setting_of, Input};
+use crate::inputs::{file_of, filled, setting_of, Input};
+use crate::refusals::Asked;
 use crate::{
     Network, CALL_BYTES, KIND_CALLS, KIND_PLANNED, LONGEST_NOTE, SETTING_BYTES, TRAILER_BYTES,
 };
 
-/// The entries, the reader once for each kind of file.
-#[derive(Clone, Copy, PartialEq, Eq, Debug)]
-pub enum Asked {
-    Plan,
-    Accept,
-    ReadCalls,
-    ReadPlanned,
-    WriteCalls,
-    WritePlanned,
-}
-
 impl Asked {
-    pub const ALL: [Asked; 6] = [
-        Asked::Plan,
-        Asked::Accept,
-        Asked::ReadCalls,
-        Asked::ReadPlanned,
-        Asked::WriteCalls,
-        Asked::WritePlanned,
-    ];
-
-    /// The refusals that the entry can give, in the document's order.
-    pub fn order(self) -> &'static [usize] {
-        match self {
-            Asked::Plan => &[1, 2, 3, 4, 5, 6, 7, 8],
-            Asked::Accept => &[1, 2, 3, 5, 6, 7, 9, 10, 11, 12, 13],
-            Asked::ReadCalls => &[14, 1, 3, 15, 5, 6, 7],
-            Asked::ReadPlanned => &[14, 1, 3, 15, 5, 6, 7, 9, 10, 11, 12, 13],
-            Asked::WriteCalls => &[1, 2, 3, 16, 4, 5, 6, 7],
-            Asked::WritePlanned => &[1, 2, 3, 16, 4, 5, 6, 7, 9, 10, 11, 12, 13],
-        }
-    }
-
     /// In how many ways a fault is made for this entry.
     pub fn ways(self, number: usize) -> usize {
         match number {
@@ -63,16 +33,6 @@ impl Asked {
 pub struct Fault {
     pub number: usize,
     pub way: usize,
-}
-
-/// Whether a refusal tells a row.
-pub fn is_sought_in_rows(number: usize) -> bool {
-    (5..=13).contains(&number)
-}
-
-/// Whether a refusal is one of those that each row is tried for in turn.
-pub fn is_of_settings(number: usize) -> bool {
-    (9..=13).contains(&number)
 }
 
 /// An input that has the given faults; those sought in rows stand in the table in the order given.
@@ -383,9 +343,4 @@ impl Draft {
     fn room(&self, needed: usize) -> Vec<u8> {
         filled(if self.wishes(4) { needed - 1 } else { needed })
     }
-}
-
-/// So many bytes, each filled by its place, so that a byte that is written is seen.
-pub fn filled(length: usize) -> Vec<u8> {
-    (0..length).map(|place| (place * 37 + 163) as u8).collect()
 }

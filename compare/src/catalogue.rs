@@ -1,0 +1,104 @@
+//! Which inputs are stored, and in which order. The groups stand in the files of `catalogue/`:
+//! written by hand, built from `ladders.rs` or made by `faulty.rs`; a few are drawn by `inputs.rs`.
+//! How they are stored is the matter of `stored_form.rs`.
+
+mod builders;
+mod by_light;
+mod chains;
+mod faults;
+mod files;
+mod from_documents;
+mod limits;
+mod listed;
+mod worked;
+
+use crate::inputs::{drawn, Input};
+use crate::stored_form::{stored_input, Stored};
+
+/// All stored inputs: those of the entries, then the files to be listed.
+pub fn stored_inputs() -> Vec<Stored> {
+    let of_entries = entry_inputs().into_iter().map(Stored::Input);
+    let listed = listed::listed_files()
+        .into_iter()
+        .map(|file| Stored::List { file });
+    of_entries.chain(listed).collect()
+}
+
+/// The stored inputs of the five entries.
+fn entry_inputs() -> Vec<Input> {
+    let groups = [
+        from_documents::bench_table(),
+        from_documents::document_004_tables(),
+        chains::long_chains(),
+        limits::limits_and_lengths(),
+        faults::single_faults(),
+        faults::pairs_of_faults(),
+        faults::faults_in_one_row(),
+        files::files(),
+        files::damaged_files(),
+        by_light::by_light(),
+        limits::wide_sizes(),
+        worked::worked(),
+        few_drawn(),
+    ];
+    without_repeats(groups.concat())
+}
+
+/// The list without inputs that stand in it before in just the same form.
+fn without_repeats(inputs: Vec<Input>) -> Vec<Input> {
+    let mut kept: Vec<Input> = Vec::new();
+    for input in inputs {
+        if !kept.contains(&input) {
+            kept.push(input);
+        }
+    }
+    kept
+}
+
+/// A hundred and fifty drawn inputs of no more than six hundred bytes.
+fn few_drawn() -> Vec<Input> {
+    let is_short = |input: &Input| {
+        let stored = stored_input(&Stored::Input(input.clone()));
+        stored.map_or(false, |bytes| bytes.len() <= 600)
+    };
+    drawn(150).filter(is_short).take(150).collect()
+}
+
+#[cfg(test)]
+mod tests {
+    use super::*;
+    use crate::comparison::answer_of;
+    use crate::plain::Plain;
+    use crate::refusals::{applying_refusals, first_in_order, Asked};
+    use crate::stored_form::stored_files;
+
+    #[test]
+    fn stored_files_keep_to_their_sizes() {
+        let inputs = stored_inputs();
+        let (questions, answers) = stored_files(&inputs);
+        assert_eq!(answers.lines().count(), inputs.len());
+        assert!(questions.len() < 1_200_000, "{}", questions.len());
+        assert!(answers.len() < 700_000, "{}", answers.len());
+    }
+
+    /// The refusals that apply decide every stored answer, and those of drawn inputs.
+    #[test]
+    fn refusals_that_apply_decide_the_answers() {
+        for input in entry_inputs().into_iter().chain(drawn(7).take(3000)) {
+            let asked = match &input {
+                Input::Plan { .. } => Asked::Plan,
+                Input::Accept { .. } => Asked::Accept,
+                Input::Read { .. } => Asked::ReadPlanned,
+                Input::WriteCalls { .. } => Asked::WriteCalls,
+                Input::WritePlanned { .. } => Asked::WritePlanned,
+            };
+            let (answer, _) = answer_of(&Plain, &input);
+            match first_in_order(asked.order(), &applying_refusals(&input)) {
+                Some(owed) => {
+                    assert_eq!((answer.number(), answer.row()), (owed.number, owed.row));
+                }
+                None => assert_eq!(answer.number(), 0),
+            }
+        }
+    }
+}

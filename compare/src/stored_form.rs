@@ -1,0 +1,202 @@
+//! How an input and its answer are stored. The answers are those of `plain.rs`, given by way of
+//! `comparison.rs`; which inputs are stored is the matter of `catalogue.rs`.
+//!
+//! An input has a head of 33 bytes: the entry by one byte; n, m and r by eight bytes each; the
+//! lengths of note, calls, settings and room by two bytes each; all with the high byte first. The
+//! bytes of these four follow. The entries are 0 plan, 1 accept, 2 read, 3 write_calls,
+//! 4 write_planned and 5 list. A file to be read or listed stands in the place of the calls, and the
+//! settings that the planner is to write stand in the place of the room.
+//!
+//! The answer is a line: the numbers, each with a space after it, then the bytes of the room as they
+//! are afterwards, by two hexadecimal digits each. For a file to be listed the numbers are the length
+//! of the text and how many bytes of its buffer beyond the text were changed, which is always 0, and
+//! the bytes are those of the text.
+
+use crate::comparison::answer_of;
+use crate::inputs::Input;
+use crate::plain::{listing, Plain};
+use crate::Network;
+use std::fmt::Write;
+
+/// A stored input: of one of the five entries, or a file for the listing program, which is no entry.
+#[derive(Clone, PartialEq, Eq, Debug)]
+pub enum Stored {
+    Input(Input),
+    List { file: Vec<u8> },
+}
+
+/// The listing program's number among the entries of stored inputs.
+const LIST: u8 = 5;
+
+/// The head's entry and sizes, and the four parts of an input in their stored order.
+struct Parts<'a> {
+    entry: u8,
+    net: Network,
+    note: &'a [u8],
+    calls: &'a [u8],
+    settings: &'a [u8],
+    room: &'a [u8],
+}
+
+/// The parts of an entry and its network, all four without bytes.
+fn no_bytes(entry: u8, net: Network) -> Parts<'static> {
+    Parts {
+        entry,
+        net,
+        note: &[],
+        calls: &[],
+        settings: &[],
+        room: &[],
+    }
+}
+
+/// A file alone, in the place of the calls.
+fn parts_of_file(entry: u8, file: &[u8]) -> Parts<'_> {
+    Parts {
+        calls: file,
+        ..no_bytes(entry, Network { n: 0, m: 0, r: 0 })
+    }
+}
+
+fn parts_of(stored: &Stored) -> Parts<'_> {
+    let input = match stored {
+        Stored::Input(input) => input,
+        Stored::List { file } => return parts_of_file(LIST, file),
+    };
+    let entry = input.entry() as u8;
+    match input {
+        Input::Plan {
+            net,
+            calls,
+            settings,
+        } => Parts {
+            calls,
+            room: settings,
+            ..no_bytes(entry, *net)
+        },
+        Input::Accept {
+            net,
+            calls,
+            settings,
+        } => Parts {
+            calls,
+            settings,
+            ..no_bytes(entry, *net)
+        },
+        Input::Read { file } => parts_of_file(entry, file),
+        Input::WriteCalls {
+            net,
+            note,
+            calls,
+            settings,
+            out,
+        }
+        | Input::WritePlanned {
+            net,
+            note,
+            calls,
+            settings,
+            out,
+        } => Parts {
+            entry,
+            net: *net,
+            note,
+            calls,
+            settings,
+            room: out,
+        },
+    }
+}
+
+/// The bytes of a stored input; none where a length doesn't fit two bytes. Sizes are stored whole.
+pub fn stored_input(stored: &Stored) -> Option<Vec<u8>> {
+    let parts = parts_of(stored);
+    let mut bytes = vec![parts.entry];
+    for size in [parts.net.n, parts.net.m, parts.net.r] {
+        bytes.extend((size as u64).to_be_bytes());
+    }
+    let contents = [parts.note, parts.calls, parts.settings, parts.room];
+    for content in contents {
+        bytes.extend(u16::try_from(content.len()).ok()?.to_be_bytes());
+    }
+    bytes.extend(contents.concat());
+    Some(bytes)
+}
+
+/// The line that answers an input, by the plain implementation.
+pub fn stored_answer(stored: &Stored) -> String {
+    match stored {
+        Stored::Input(input) => {
+            let (answer, room) = answer_of(&Plain, input);
+            answer_line(&answer.numbers(), &room)
+        }
+        Stored::List { file } => {
+            let text = listing(file);
+            answer_line(&[text.len(), 0], &text)
+        }
+    }
+}
+
+fn answer_line(numbers: &[usize], bytes: &[u8]) -> String {
+    let mut line = String::new();
+    for number in numbers {
+        write!(line, "{} ", number).expect("a string takes all that is written");
+    }
+    for byte in bytes {
+        write!(line, "{:02x}", byte).expect("a string takes all that is written");
+    }
+    line.push('\n');
+    line
+}
+
+/// Both files of these inputs: the inputs themselves, and the lines of their answers. Inputs that
+/// can't be stored are left out.
+pub fn stored_files(inputs: &[Stored]) -> (Vec<u8>, String) {
+    let mut questions = Vec::new();
+    let mut answers = String::new();
+    for stored in inputs {
+        if let Some(bytes) = stored_input(stored) {
+            questions.extend(bytes);
+            answers.push_str(&stored_answer(stored));
+        }
+    }
+    (questions, answers)
+}
+
+#[cfg(test)]
+mod tests {
+    use super::*;
+
+    #[test]
+    fn heads_hold_whole_sizes() {
+        let input = Input::WritePlanned {
+            net: Network {
+                n: 3,
+                m: 1 << 63,
+                r: 65_537,
+            },
+            note: vec![7],
+            calls: vec![8; 258],
+            settings: vec![],
+            out: vec![9, 10],
+        };
+        let bytes = stored_input(&Stored::Input(input)).expect("every length fits two bytes");
+        let head = [
+            4, 0, 0, 0, 0, 0, 0, 0, 3, 128, 0, 0, 0, 0, 0, 0, 0, 0, 0, 0, 0, 0, 1, 0, 1, 0, 1, 1,
+            2, 0, 0, 0, 2,
+        ];
+        assert_eq!(bytes[..33], head);
+        assert_eq!(bytes[33..], [&[7][..], &[8; 258], &[9, 10]].concat());
+    }
+
+    #[test]
+    fn files_to_be_listed_stand_in_the_place_of_the_calls() {
+        let stored = Stored::List { file: vec![6] };
+        let bytes = stored_input(&stored).expect("every length fits two bytes");
+        assert_eq!(bytes[..25], [&[5][..], &[0; 24]].concat());
+        assert_eq!(bytes[25..], [0, 0, 0, 1, 0, 0, 0, 0, 6]);
+        let text = b"refused 14 row 0\n";
+        let digits: String = text.iter().map(|byte| format!("{:02x}", byte)).collect();
+        assert_eq!(stored_answer(&stored), format!("17 0 {}\n", digits));
+    }
+}
