@@ -4,8 +4,8 @@
 
    A buffer is handed over as a pointer and a length in bytes; where the length is 0 any pointer will do, also null. A buffer
    that is written must overlap no other. Nothing else is asked of the input. Nothing is kept between calls or allocated.
-   Stack, as measured (docs/BENCHMARKS.md): the planner takes 5,304 bytes and some 64 more for each call on its longest chain,
-   13,320 on the worst table found; acceptance takes 4,232, the reader 5,464, the writers 5,608.
+   Stack, as measured (docs/BENCHMARKS.md): the planner takes 4,504 bytes and some 24 more for each call on its longest chain,
+   7,504 on the worst table found; acceptance takes 4,232, the reader 5,464, the writers 5,608.
 
    A call row has 4 bytes: input module, its channel, output module, its channel. The first two are its inlet, the last two
    its outlet. A settings row has 3: wavelength to the central module, central module, wavelength from it. Settings row i

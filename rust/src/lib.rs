@@ -4,7 +4,7 @@
 //! other number is a refusal, which changes no byte of any buffer.
 //!
 //! The library is for x86-64 Linux. It allocates nothing and keeps nothing between calls. A call
-//! takes stack, at most 13,320 bytes where it was measured (`docs/BENCHMARKS.md`).
+//! takes stack, at most 7,504 bytes where it was measured (`docs/BENCHMARKS.md`).
 
 /// The three sizes of a network: n channels of each module, m central modules, r input modules and
 /// as many output modules. Sizes of any value may be given: those outside the limits are refused.
