@@ -5,7 +5,7 @@
    A buffer is handed over as a pointer and a length in bytes; where the length is 0 any pointer will do, also null. A buffer
    that is written must overlap no other. Nothing else is asked of the input. Nothing is kept between calls or allocated.
    Stack, as measured (docs/BENCHMARKS.md): the planner takes 4,504 bytes and some 24 more for each call on its longest chain,
-   7,504 on the worst table found; acceptance takes 4,232, the reader 5,464, the writers 5,608.
+   7,504 on the worst table found; acceptance takes 4,232, the reader 5,496, the writers 5,624.
 
    A call row has 4 bytes: input module, its channel, output module, its channel. The first two are its inlet, the last two
    its outlet. A settings row has 3: wavelength to the central module, central module, wavelength from it. Settings row i
@@ -13,7 +13,7 @@
 
    number  when                                                                            row
         0  success                                                                         K
-        1  n, m or r outside its limits                                                    0
+        1  n, m or r outside its limits, or w below r, below m or above 64                 0
         2  calls not a multiple of 4 bytes, or settings not as long as they must be        0
         3  more than 1,024 calls                                                           0
         4  output buffer too short                                                         0
@@ -29,6 +29,7 @@
        14  no trailer: under 12 bytes, wrong mark, or kind not 1 or 2                      0
        15  distances not as stated, more than the file holds, or a note above 255 bytes    0
        16  note to be written above 255 bytes                                              0
+       18  w is not the larger of r and m, and a file to be written has no place for it    0
 
    Every number but 0 is a refusal, and a refusal changes no byte of any buffer. */
 #ifndef BOLIKWARU_H
@@ -41,11 +42,12 @@
 extern "C" {
 #endif
 
-/* The limits. n, m and r are at least 1; there may be no calls, and the note may be empty. examples/c/limits.c checks these
-   numbers and those below against the library. */
+/* The limits. n, m and r are at least 1, and w is at least the larger of r and m; there may be no calls, and the note may be
+   empty. examples/c/limits.c checks these numbers and those below against the library. */
 #define BOLIKWARU_MOST_CHANNELS 16
 #define BOLIKWARU_MOST_CENTRALS 32
 #define BOLIKWARU_MOST_MODULES 64
+#define BOLIKWARU_MOST_WAVELENGTHS 64
 #define BOLIKWARU_MOST_CALLS 1024
 #define BOLIKWARU_MOST_NOTE 255
 
@@ -57,10 +59,19 @@ extern "C" {
 #define BOLIKWARU_CALLS_ONLY 1
 #define BOLIKWARU_PLANNED 2
 
-/* A network: n channels of each module, m central modules, r input modules and as many output modules. */
+/* A network: n channels of each module, m central modules, r input modules and as many output modules, and w, the cycle of both
+   gratings: a grating's own number of ports, and of wavelengths inside the shelf. An initialiser with three numbers leaves w
+   0, which is refused. */
 typedef struct {
-    size_t n, m, r;
+    size_t n, m, r, w;
 } bolikwaru_network;
+
+/* The network of these sizes with the least cycle, the larger of r and m: what a plan file of the two kinds stands for.
+   Nothing is refused here. */
+static inline bolikwaru_network bolikwaru_of_sizes(size_t n, size_t m, size_t r) {
+    const bolikwaru_network net = {n, m, r, r < m ? m : r};
+    return net;
+}
 
 /* A number and a row of the table above. */
 typedef struct {
@@ -72,9 +83,9 @@ typedef struct {
     size_t number, row, moved;
 } bolikwaru_planned;
 
-/* A number and a row, and what the file tells: the network, the kind, K as count, and where note, calls and settings begin,
-   in bytes from the file's start. In a calls-only file settings begin at the trailer. If refused, all but number and row
-   are 0. */
+/* A number and a row, and what the file tells: the network's sizes, the kind, K as count, and where note, calls and settings
+   begin, in bytes from the file's start. The network is bolikwaru_of_sizes(n, m, r). In a calls-only file settings begin at
+   the trailer. If refused, all but number and row are 0. */
 typedef struct {
     size_t number, row;
     size_t n, m, r;
@@ -99,7 +110,7 @@ bolikwaru_verdict bolikwaru_accept(bolikwaru_network net,
 bolikwaru_told bolikwaru_read(const uint8_t *file, size_t file_length);
 
 /* Writes a calls-only file. Settings have no bytes. Success writes note, calls and 12 bytes of trailer at the front of `out`
-   and keeps the bytes beyond. Refusals are tried in the order 1, 2, 3, 16, 4, 5, 6, 7. */
+   and keeps the bytes beyond. Refusals are tried in the order 1, 2, 3, 16, 4, 5, 6, 7, 18. */
 bolikwaru_verdict bolikwaru_write_calls(bolikwaru_network net,
                                         const uint8_t *note, size_t note_length,
                                         const uint8_t *calls, size_t calls_length,
@@ -108,7 +119,7 @@ bolikwaru_verdict bolikwaru_write_calls(bolikwaru_network net,
 
 /* Writes a planned file. Settings have 3 bytes for each call. Success writes note, calls, settings and 12 bytes of trailer at
    the front of `out` and keeps the bytes beyond. Refusals are tried in the order 1, 2, 3, 16, 4, 5, 6, 7, then row by row 9
-   to 13. */
+   to 13, then 18. */
 bolikwaru_verdict bolikwaru_write_planned(bolikwaru_network net,
                                           const uint8_t *note, size_t note_length,
                                           const uint8_t *calls, size_t calls_length,

@@ -5,6 +5,7 @@
 mod builders;
 mod by_light;
 mod chains;
+mod cycles;
 mod faults;
 mod files;
 mod from_documents;
@@ -12,7 +13,7 @@ mod limits;
 mod listed;
 mod worked;
 
-use crate::inputs::{drawn, Input};
+use crate::inputs::{drawn, drawn_of_sizes, Input};
 use crate::stored_form::{stored_input, Stored};
 
 /// All stored inputs: those of the entries, then the files to be listed.
@@ -39,7 +40,11 @@ fn entry_inputs() -> Vec<Input> {
         by_light::by_light(),
         limits::wide_sizes(),
         worked::worked(),
-        few_drawn(),
+        short_of(drawn_of_sizes(150), 150),
+        cycles::own_cycles(),
+        by_light::by_light_at_spare_ports(),
+        faults::pairs_before_another_cycle(),
+        short_of(drawn(151), 60),
     ];
     without_repeats(groups.concat())
 }
@@ -55,13 +60,13 @@ fn without_repeats(inputs: Vec<Input>) -> Vec<Input> {
     kept
 }
 
-/// A hundred and fifty drawn inputs of no more than six hundred bytes.
-fn few_drawn() -> Vec<Input> {
+/// So many of these inputs, those of no more than 608 bytes with their heads.
+fn short_of(inputs: impl Iterator<Item = Input>, count: usize) -> Vec<Input> {
     let is_short = |input: &Input| {
         let stored = stored_input(&Stored::Input(input.clone()));
-        stored.map_or(false, |bytes| bytes.len() <= 600)
+        stored.map_or(false, |bytes| bytes.len() <= 608)
     };
-    drawn(150).filter(is_short).take(150).collect()
+    inputs.filter(is_short).take(count).collect()
 }
 
 #[cfg(test)]

@@ -1,6 +1,6 @@
 //! Comparison of two implementations on one input, and on every small input.
 
-use crate::inputs::{file_of, filled, settings_length, Entry, Input};
+use crate::inputs::{file_of, filled, setting_of, settings_length, Entry, Input};
 use crate::ladders::calls_of_pairs;
 use crate::{
     Entries, Network, Planned, Told, Verdict, CALL_BYTES, HIGHEST_NUMBER, KIND_CALLS, KIND_PLANNED,
@@ -345,23 +345,47 @@ pub fn compare_exhaustively(
     plan_pairs(&mut both)?;
     accept_one_row(&mut both)?;
     accept_two_rows(&mut both)?;
-    write_and_read_one_row(&mut both)?;
+    write_one_row(&mut both)?;
+    read_one_row(&mut both)?;
     read_damaged_files(&mut both)?;
     try_rooms(&mut both)?;
+    try_cycles(&mut both)?;
     Ok(both.coverage)
 }
 
-/// All networks with each size from 0 to the highest.
-fn networks(highest: usize) -> Vec<Network> {
+/// All networks with each size from 0 to the highest, and the larger of r and m for a cycle.
+fn networks_of_sizes(highest: usize) -> Vec<Network> {
     let mut networks = Vec::new();
     for n in 0..=highest {
         for m in 0..=highest {
             for r in 0..=highest {
-                networks.push(Network { n, m, r });
+                networks.push(Network::of_sizes(n, m, r));
             }
         }
     }
     networks
+}
+
+/// The same networks, and those without a size of 0 also with the cycle one below and one above.
+fn networks(highest: usize) -> Vec<Network> {
+    networks_of_sizes(highest)
+        .into_iter()
+        .flat_map(|net| {
+            let least = net.cycle();
+            let cycles = if net.n * net.m * net.r == 0 {
+                least..=least
+            } else {
+                least - 1..=least + 1
+            };
+            cycles.map(move |cycle| net.with_cycle(cycle))
+        })
+        .collect()
+}
+
+/// The network with as few wavelengths as can be, and with one more.
+fn tight_and_spare(n: usize, m: usize, r: usize) -> [Network; 2] {
+    let net = Network::of_sizes(n, m, r);
+    [net, net.with_cycle(net.cycle() + 1)]
 }
 
 /// All strings of so many bytes with each byte from 0 to the highest.
@@ -387,7 +411,8 @@ fn plan_input(net: Network, calls: Vec<u8>) -> Input {
     }
 }
 
-/// Every network with sizes up to 2, every table of up to two rows with numbers up to 2.
+/// Every network with sizes up to 2 and a cycle around the larger of r and m, every table of up to
+/// two rows with numbers up to 2.
 fn plan_small_tables(both: &mut Both) -> Result<(), Difference> {
     for net in networks(2) {
         for rows in 0..=2 {
@@ -406,19 +431,19 @@ fn plan_longer_tables(both: &mut Both) -> Result<(), Difference> {
             both.compare(plan_input(net, calls))?;
         }
     }
-    let net = Network { n: 2, m: 2, r: 2 };
-    for calls in strings(CALL_BYTES * 4, 1) {
-        both.compare(plan_input(net, calls))?;
+    for net in tight_and_spare(2, 2, 2) {
+        for calls in strings(CALL_BYTES * 4, 1) {
+            both.compare(plan_input(net, calls))?;
+        }
     }
     Ok(())
 }
 
 /// Tables of four and five calls between any of three input modules and three output modules, each
-/// on the next channel of its modules, with two channels and then three, and two centrals: chains,
-/// full modules, and one too many.
+/// on the next channel of its modules, with two channels and then three, and two centrals, with and
+/// without a spare wavelength: chains, full modules, and one too many.
 fn plan_pairs(both: &mut Both) -> Result<(), Difference> {
-    for n in 2..=3 {
-        let net = Network { n, m: 2, r: 3 };
+    for net in [tight_and_spare(2, 2, 3), tight_and_spare(3, 2, 3)].concat() {
         for rows in 4..=5 {
             for modules in strings(2 * rows, 2) {
                 let pairs: Vec<(usize, usize)> = modules
@@ -432,8 +457,8 @@ fn plan_pairs(both: &mut Both) -> Result<(), Difference> {
     Ok(())
 }
 
-/// Every network with sizes up to 3, every row with numbers up to 2, every settings row with
-/// numbers up to 3.
+/// Every network with sizes up to 3 and a cycle around the larger of r and m, every row with numbers
+/// up to 2, every settings row with numbers up to 3.
 fn accept_one_row(both: &mut Both) -> Result<(), Difference> {
     for net in networks(3) {
         for calls in strings(CALL_BYTES, 2) {
@@ -449,47 +474,70 @@ fn accept_one_row(both: &mut Both) -> Result<(), Difference> {
     Ok(())
 }
 
-/// 2-2-2: every table of two rows with numbers up to 1, every settings with numbers up to 2.
+/// 2-2-2, with and without a spare wavelength: every table of two rows with numbers up to 1, every
+/// settings with numbers up to 2.
 fn accept_two_rows(both: &mut Both) -> Result<(), Difference> {
-    let net = Network { n: 2, m: 2, r: 2 };
-    for calls in strings(CALL_BYTES * 2, 1) {
-        for settings in strings(SETTING_BYTES * 2, 2) {
-            both.compare(Input::Accept {
-                net,
-                calls: calls.clone(),
-                settings,
-            })?;
+    for net in tight_and_spare(2, 2, 2) {
+        for calls in strings(CALL_BYTES * 2, 1) {
+            for settings in strings(SETTING_BYTES * 2, 2) {
+                both.compare(Input::Accept {
+                    net,
+                    calls: calls.clone(),
+                    settings,
+                })?;
+            }
         }
     }
     Ok(())
 }
 
-/// Every network with sizes up to 2, one row with numbers up to 2: written and read, calls only and
-/// planned.
-fn write_and_read_one_row(both: &mut Both) -> Result<(), Difference> {
-    let note = filled(1);
+/// A call of the writer of calls-only files, given no settings, with a note and room for a row.
+fn write_calls_input(net: Network, calls: Vec<u8>) -> Input {
+    Input::WriteCalls {
+        net,
+        note: filled(1),
+        calls,
+        settings: Vec::new(),
+        out: filled(19),
+    }
+}
+
+/// A call of the writer of planned files with a note and room for a row.
+fn write_planned_input(net: Network, calls: Vec<u8>, settings: Vec<u8>) -> Input {
+    Input::WritePlanned {
+        net,
+        note: filled(1),
+        calls,
+        settings,
+        out: filled(22),
+    }
+}
+
+/// Every network with sizes up to 2 and a cycle around the larger of r and m, one row with numbers up
+/// to 2: written, calls only and planned.
+fn write_one_row(both: &mut Both) -> Result<(), Difference> {
     for net in networks(2) {
         for calls in strings(CALL_BYTES, 2) {
-            both.compare(Input::WriteCalls {
-                net,
-                note: note.clone(),
-                calls: calls.clone(),
-                settings: Vec::new(),
-                out: filled(19),
-            })?;
+            both.compare(write_calls_input(net, calls.clone()))?;
+            for settings in strings(SETTING_BYTES, 2) {
+                both.compare(write_planned_input(net, calls.clone(), settings))?;
+            }
+        }
+    }
+    Ok(())
+}
+
+/// Every three sizes up to 2, one row with numbers up to 2: read, calls only and planned.
+fn read_one_row(both: &mut Both) -> Result<(), Difference> {
+    let note = filled(1);
+    for net in networks_of_sizes(2) {
+        for calls in strings(CALL_BYTES, 2) {
             both.compare(Input::Read {
                 file: file_of(KIND_CALLS, net, &note, &calls, &[]),
             })?;
             for settings in strings(SETTING_BYTES, 2) {
                 both.compare(Input::Read {
                     file: file_of(KIND_PLANNED, net, &note, &calls, &settings),
-                })?;
-                both.compare(Input::WritePlanned {
-                    net,
-                    note: note.clone(),
-                    calls: calls.clone(),
-                    settings,
-                    out: filled(22),
                 })?;
             }
         }
@@ -499,7 +547,7 @@ fn write_and_read_one_row(both: &mut Both) -> Result<(), Difference> {
 
 /// Two files of each kind: every value of every byte, and every cut at either end.
 fn read_damaged_files(both: &mut Both) -> Result<(), Difference> {
-    let net = Network { n: 2, m: 2, r: 2 };
+    let net = Network::of_sizes(2, 2, 2);
     let calls = [0, 0, 0, 0, 1, 0, 1, 0];
     let settings = [0, 0, 0, 1, 0, 1];
     let files = [
@@ -530,7 +578,7 @@ fn read_damaged_files(both: &mut Both) -> Result<(), Difference> {
 
 /// Rooms of every length around what is needed, and notes around 255 bytes.
 fn try_rooms(both: &mut Both) -> Result<(), Difference> {
-    let net = Network { n: 2, m: 2, r: 2 };
+    let net = Network::of_sizes(2, 2, 2);
     let calls = [0, 0, 0, 0, 1, 0, 1, 0];
     let settings = [0, 0, 0, 1, 0, 1];
     for room in 0..=300 {
@@ -554,6 +602,35 @@ fn try_rooms(both: &mut Both) -> Result<(), Difference> {
                 settings: settings.to_vec(),
                 out: filled(room),
             })?;
+        }
+    }
+    Ok(())
+}
+
+/// Four networks with every cycle up to 130, and with those that would be one of these if they were cut
+/// to 8, 16 or 32 bits: the last call that there can be, with the settings that it needs on the last
+/// central by this cycle and by the larger of r and m, planned, judged and written.
+fn try_cycles(both: &mut Both) -> Result<(), Difference> {
+    let sizes = [(1, 1, 1), (2, 2, 3), (2, 3, 2), (16, 32, 64)];
+    for (n, m, r) in sizes {
+        let of_sizes = Network::of_sizes(n, m, r);
+        let [module, channel] = [(r - 1) as u8, (n - 1) as u8];
+        let calls = vec![module, channel, module, channel];
+        for low in 0..=130 {
+            for high in [0, 1 << 8, 1 << 16, 1 << 32, 1 << 63, usize::MAX - 130] {
+                let net = of_sizes.with_cycle(low + high);
+                both.compare(plan_input(net, calls.clone()))?;
+                both.compare(write_calls_input(net, calls.clone()))?;
+                for made_for in [of_sizes, of_sizes.with_cycle(low.max(1))] {
+                    let settings = setting_of(made_for, &calls, m - 1).to_vec();
+                    both.compare(Input::Accept {
+                        net,
+                        calls: calls.clone(),
+                        settings: settings.clone(),
+                    })?;
+                    both.compare(write_planned_input(net, calls.clone(), settings))?;
+                }
+            }
         }
     }
     Ok(())

@@ -44,11 +44,31 @@ pub fn input_with(asked: Asked, faults: &[Fault]) -> Input {
     draft.finish()
 }
 
-/// An input with all the given faults of 9 to 13 in one row.
-pub fn input_with_in_one_row(asked: Asked, numbers: &[usize]) -> Input {
-    let mut draft = Draft::new(asked, &[]);
+/// An input with all the given faults of 9 to 13 in one row, and with others that are not sought in
+/// rows.
+pub fn input_with_in_one_row(asked: Asked, numbers: &[usize], others: &[Fault]) -> Input {
+    let mut draft = Draft::new(asked, others);
     draft.add_one_row_with(numbers);
     draft.finish()
+}
+
+/// A network whose n is outside its limits where 1 is wished, and whose cycle is one above the larger
+/// of r and m where 18 is. For 3 it is large enough for 1,024 rows without fault, or, with 18 as
+/// well, as large as the limit of the cycle allows.
+fn network_for(faults: &[Fault]) -> Network {
+    let wished = |number: usize| faults.iter().any(|fault| fault.number == number);
+    let most_modules = if wished(18) { 63 } else { 64 };
+    let net = match (wished(1), wished(3)) {
+        (false, false) => Network::of_sizes(3, 2, 8),
+        (true, false) => Network::of_sizes(17, 2, 8),
+        (true, true) => Network::of_sizes(17, 32, most_modules),
+        (false, true) => Network::of_sizes(16, if wished(8) { 15 } else { 32 }, most_modules),
+    };
+    if wished(18) {
+        net.with_cycle(net.cycle() + 1)
+    } else {
+        net
+    }
 }
 
 /// A table under construction, with the faults that are made when it is finished.
@@ -63,28 +83,12 @@ struct Draft {
 }
 
 impl Draft {
-    /// A draft with one sound row. Its sizes are outside their limits where 1 is wished; for 3 they
-    /// are large enough for 1,024 rows without fault.
+    /// A draft with one sound row.
     fn new(asked: Asked, faults: &[Fault]) -> Draft {
-        let wished = |number: usize| faults.iter().any(|fault| fault.number == number);
-        let net = match (wished(1), wished(3)) {
-            (false, false) => Network { n: 3, m: 2, r: 8 },
-            (true, false) => Network { n: 17, m: 2, r: 8 },
-            (true, true) => Network {
-                n: 17,
-                m: 32,
-                r: 64,
-            },
-            (false, true) => Network {
-                n: 16,
-                m: if wished(8) { 15 } else { 32 },
-                r: 64,
-            },
-        };
         let mut draft = Draft {
             asked,
             faults: faults.to_vec(),
-            net,
+            net: network_for(faults),
             calls: Vec::new(),
             settings: Vec::new(),
             inputs_used: 0,
@@ -211,8 +215,8 @@ impl Draft {
 
     /// Fills the table up to 1,025 rows: with sound rows at free inlets and outlets, on centrals
     /// that no other row uses, and where these run out with rows that have numbers outside. With
-    /// sizes inside their limits there are 1,024 inlets, so 1,025 rows always have 5, or else 6 and
-    /// 7.
+    /// sizes inside their limits there are at most 1,024 inlets, so 1,025 rows always have 5, or
+    /// else 6 and 7.
     fn fill_beyond_most(&mut self) {
         let ends: Vec<[u8; CALL_BYTES]> = self
             .calls
@@ -339,8 +343,12 @@ impl Draft {
         }
     }
 
-    /// A room as long as needed, or one byte less where 4 is wished.
+    /// A room as long as needed, or one byte less where 4 is wished. With 1,025 rows and 18 there is
+    /// no room at all, which is 4 as well, so that these inputs are short.
     fn room(&self, needed: usize) -> Vec<u8> {
+        if self.wishes(3) && self.wishes(18) {
+            return Vec::new();
+        }
         filled(if self.wishes(4) { needed - 1 } else { needed })
     }
 }

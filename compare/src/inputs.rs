@@ -180,46 +180,63 @@ impl Random {
     }
 }
 
+/// Which cycles networks have: that of their three sizes alone, or drawn ones.
+#[derive(Clone, Copy, PartialEq, Eq, Debug)]
+enum Cycles {
+    OfSizes,
+    Drawn,
+}
+
 /// Inputs drawn one after the other, without end.
 pub fn drawn(seed: u64) -> impl Iterator<Item = Input> {
     let mut random = Random::seeded(seed);
     std::iter::repeat_with(move || draw(&mut random))
 }
 
+/// Inputs drawn one after the other, without end, all with the larger of r and m for a cycle.
+pub fn drawn_of_sizes(seed: u64) -> impl Iterator<Item = Input> {
+    let mut random = Random::seeded(seed);
+    std::iter::repeat_with(move || draw_with(&mut random, Cycles::OfSizes))
+}
+
 /// Draws an input of any of the five entries.
 pub fn draw(random: &mut Random) -> Input {
+    draw_with(random, Cycles::Drawn)
+}
+
+fn draw_with(random: &mut Random, cycles: Cycles) -> Input {
     match random.below(10) {
-        0..=2 => draw_plan(random),
-        3 | 4 => draw_accept(random),
-        5 | 6 => draw_read(random),
-        7 => draw_write_calls(random),
-        _ => draw_write_planned(random),
+        0..=2 => draw_plan(random, cycles),
+        3 | 4 => draw_accept(random, cycles),
+        5 | 6 => draw_read(random, cycles),
+        7 => draw_write_calls(random, cycles),
+        _ => draw_write_planned(random, cycles),
     }
 }
 
-fn draw_plan(random: &mut Random) -> Input {
-    let table = draw_table(random);
+fn draw_plan(random: &mut Random, cycles: Cycles) -> Input {
+    let table = draw_table(random, cycles);
     let calls = draw_calls_length(random, table.calls);
     let needed = settings_length(&calls);
     Input::Plan {
-        net: draw_sizes(random, table.net),
+        net: draw_numbers(random, cycles, table.net),
         calls,
         settings: draw_room(random, needed),
     }
 }
 
-fn draw_accept(random: &mut Random) -> Input {
-    let table = draw_table(random);
+fn draw_accept(random: &mut Random, cycles: Cycles) -> Input {
+    let table = draw_table(random, cycles);
     let settings = draw_settings(random, &table);
     Input::Accept {
-        net: draw_sizes(random, table.net),
+        net: draw_numbers(random, cycles, table.net),
         calls: draw_calls_length(random, table.calls),
         settings: draw_settings_length(random, settings),
     }
 }
 
-fn draw_write_calls(random: &mut Random) -> Input {
-    let table = draw_table(random);
+fn draw_write_calls(random: &mut Random, cycles: Cycles) -> Input {
+    let table = draw_table(random, cycles);
     let note = draw_note_to_write(random);
     let calls = draw_calls_length(random, table.calls);
     let settings = match random.below(12) {
@@ -229,7 +246,7 @@ fn draw_write_calls(random: &mut Random) -> Input {
     };
     let needed = note.len() + calls.len() + TRAILER_BYTES;
     Input::WriteCalls {
-        net: draw_sizes(random, table.net),
+        net: draw_numbers(random, cycles, table.net),
         note,
         calls,
         settings,
@@ -237,15 +254,15 @@ fn draw_write_calls(random: &mut Random) -> Input {
     }
 }
 
-fn draw_write_planned(random: &mut Random) -> Input {
-    let table = draw_table(random);
+fn draw_write_planned(random: &mut Random, cycles: Cycles) -> Input {
+    let table = draw_table(random, cycles);
     let settings = draw_settings(random, &table);
     let note = draw_note_to_write(random);
     let calls = draw_calls_length(random, table.calls);
     let settings = draw_settings_length(random, settings);
     let needed = note.len() + calls.len() + settings.len() + TRAILER_BYTES;
     Input::WritePlanned {
-        net: draw_sizes(random, table.net),
+        net: draw_numbers(random, cycles, table.net),
         note,
         calls,
         settings,
@@ -253,20 +270,73 @@ fn draw_write_planned(random: &mut Random) -> Input {
     }
 }
 
-fn draw_read(random: &mut Random) -> Input {
+fn draw_read(random: &mut Random, cycles: Cycles) -> Input {
     let file = if random.once_in(30) {
         let length = random.between(0, 80);
         random.bytes(length)
     } else {
-        draw_file(random)
+        draw_file(random, cycles)
     };
     Input::Read { file }
 }
 
-// Sizes, lengths and rooms.
+// Sizes, cycles, lengths and rooms.
 
-/// Nine times of ten the sizes themselves; otherwise one of them is at a limit, over it, huge, or
-/// such that it would be right if cut to 8, 16 or 32 bits.
+/// The network with its numbers as they are, most of the time; otherwise with another cycle, or with
+/// another size and the cycle of the sizes or that of before.
+fn draw_numbers(random: &mut Random, cycles: Cycles, net: Network) -> Network {
+    if cycles == Cycles::OfSizes {
+        return draw_sizes(random, net);
+    }
+    match random.below(16) {
+        0 | 1 => net.with_cycle(draw_other_cycle(random, net)),
+        2..=8 => draw_sizes(random, net).with_cycle(net.cycle()),
+        _ => draw_sizes(random, net),
+    }
+}
+
+/// Half of the time the larger of r and m; otherwise a cycle within its limits that leaves spare
+/// ports: by one or by two, or up to the most.
+fn draw_cycle(random: &mut Random, net: Network) -> usize {
+    let least = net.least_cycle();
+    let most = Network::MOST_WAVELENGTHS;
+    match random.below(8) {
+        0..=3 => least,
+        4 => most.min(least + 1),
+        5 => most.min(least + 2),
+        6 => random.between(least, most),
+        _ => random.pick(&[most - 1, most]).max(least),
+    }
+}
+
+/// A cycle below, at or above each of its limits, a huge one, or one that would be right if cut to 8,
+/// 16 or 32 bits. Most are refused; the others are not those that the settings were made for.
+fn draw_other_cycle(random: &mut Random, net: Network) -> usize {
+    let small = random.between(net.least_cycle(), Network::MOST_WAVELENGTHS);
+    random.pick(&[
+        net.r - 1,
+        net.r,
+        net.r + 1,
+        net.m - 1,
+        net.m,
+        net.m + 1,
+        net.least_cycle(),
+        0,
+        63,
+        64,
+        65,
+        1 << 32,
+        usize::MAX,
+        small + (1 << 8),
+        small + (1 << 16),
+        small + (1 << 32),
+        net.cycle() + (1 << 32),
+        net.cycle() + (1 << 63),
+    ])
+}
+
+/// Nine times of ten the network itself; otherwise one of its sizes is at a limit, over it, huge, or
+/// such that it would be right if cut to 8, 16 or 32 bits, and its cycle is the larger of r and m.
 fn draw_sizes(random: &mut Random, net: Network) -> Network {
     if !random.once_in(10) {
         return net;
@@ -292,9 +362,9 @@ fn draw_sizes(random: &mut Random, net: Network) -> Network {
         right + (1 << 63),
     ]);
     match size {
-        0 => Network { n: other, ..net },
-        1 => Network { m: other, ..net },
-        _ => Network { r: other, ..net },
+        0 => Network::of_sizes(other, net.m, net.r),
+        1 => Network::of_sizes(net.n, other, net.r),
+        _ => Network::of_sizes(net.n, net.m, other),
     }
 }
 
@@ -369,8 +439,30 @@ struct CallTable {
     calls: Vec<u8>,
 }
 
+/// Draws a table of any kind, and the cycle of its network.
+fn draw_table(random: &mut Random, cycles: Cycles) -> CallTable {
+    let table = draw_table_of_sizes(random);
+    match cycles {
+        Cycles::OfSizes => table,
+        Cycles::Drawn => draw_table_cycle(random, table),
+    }
+}
+
+/// The table with a drawn cycle of its network. Where there are too many rows the network may lose a
+/// module, so that a cycle above the larger of r and m is within its limits there too.
+fn draw_table_cycle(random: &mut Random, table: CallTable) -> CallTable {
+    let mut net = table.net;
+    if table.calls.len() > CALL_BYTES * Network::MOST_ROWS && random.once_in(2) {
+        net.r -= 1;
+    }
+    CallTable {
+        net: net.with_cycle(draw_cycle(random, net)),
+        ..table
+    }
+}
+
 /// Draws a table of any kind; most are small.
-fn draw_table(random: &mut Random) -> CallTable {
+fn draw_table_of_sizes(random: &mut Random) -> CallTable {
     match random.below(200) {
         0 => draw_largest(random),
         1 => draw_too_many(random),
@@ -391,22 +483,22 @@ fn draw_table(random: &mut Random) -> CallTable {
 }
 
 fn draw_small_network(random: &mut Random) -> Network {
-    Network {
-        n: random.between(1, 4),
-        m: random.between(1, 5),
-        r: random.between(1, 6),
-    }
+    Network::of_sizes(
+        random.between(1, 4),
+        random.between(1, 5),
+        random.between(1, 6),
+    )
 }
 
 fn draw_network(random: &mut Random) -> Network {
     if !random.once_in(4) {
         return draw_small_network(random);
     }
-    Network {
-        n: random.between(1, Network::MOST_CHANNELS),
-        m: random.between(1, Network::MOST_CENTRALS),
-        r: random.between(1, Network::MOST_MODULES),
-    }
+    Network::of_sizes(
+        random.between(1, Network::MOST_CHANNELS),
+        random.between(1, Network::MOST_CENTRALS),
+        random.between(1, Network::MOST_MODULES),
+    )
 }
 
 /// Distinct inlets to distinct outlets, well spread: up to 30 of them.
@@ -436,22 +528,14 @@ pub fn spread_calls(random: &mut Random, net: Network, wanted: usize) -> Vec<u8>
 /// frequent.
 fn draw_small_full(random: &mut Random) -> CallTable {
     let n = random.between(1, 4);
-    let net = Network {
-        n,
-        m: n + random.pick(&[0, 0, 0, 1]),
-        r: random.between(1, 8),
-    };
+    let net = Network::of_sizes(n, n + random.pick(&[0, 0, 0, 1]), random.between(1, 8));
     draw_dense(random, net)
 }
 
 /// Every inlet, or nearly every, of a network that may be larger.
 fn draw_full(random: &mut Random) -> CallTable {
     let n = random.between(1, Network::MOST_CHANNELS);
-    let net = Network {
-        n,
-        m: n + random.pick(&[0, 0, 1, 5]),
-        r: random.between(1, 40),
-    };
+    let net = Network::of_sizes(n, n + random.pick(&[0, 0, 1, 5]), random.between(1, 40));
     draw_dense(random, net)
 }
 
@@ -491,11 +575,7 @@ fn draw_row_order(random: &mut Random, calls: Vec<u8>) -> Vec<u8> {
 
 /// The most channels and the most modules, 1,023 or 1,024 calls.
 fn draw_largest(random: &mut Random) -> CallTable {
-    let net = Network {
-        n: 16,
-        m: random.pick(&[16, 17, 32]),
-        r: 64,
-    };
+    let net = Network::of_sizes(16, random.pick(&[16, 17, 32]), 64);
     let wanted = random.between(Network::MOST_ROWS - 1, Network::MOST_ROWS);
     let calls = spread_calls(random, net, wanted);
     CallTable {
@@ -506,11 +586,7 @@ fn draw_largest(random: &mut Random) -> CallTable {
 
 /// More than 1,024 rows; now and then so many that K would do if cut to 16 bits, or to 8.
 fn draw_too_many(random: &mut Random) -> CallTable {
-    let net = Network {
-        n: 16,
-        m: 32,
-        r: 64,
-    };
+    let net = Network::of_sizes(16, 32, 64);
     let count = match random.below(12) {
         0 => 65_536 + random.below(3),
         1 => 1280,
@@ -529,11 +605,7 @@ fn draw_too_many(random: &mut Random) -> CallTable {
 /// One module of either side has more calls than there are centrals.
 fn draw_overfull(random: &mut Random) -> CallTable {
     let n = random.between(2, 6);
-    let net = Network {
-        n,
-        m: random.between(1, n - 1),
-        r: random.between(1, 6),
-    };
+    let net = Network::of_sizes(n, random.between(1, n - 1), random.between(1, 6));
     let full = spread_calls(random, net, net.n * net.r);
     let module = random.below(net.r);
     let side = if random.once_in(2) { 0 } else { 2 };
@@ -597,11 +669,7 @@ fn draw_rounds_and_ladder(random: &mut Random, rounds: usize, modules: usize) ->
     let inputs = random.order(modules);
     let outputs = random.order(modules);
     CallTable {
-        net: Network {
-            n: rounds + 2,
-            m: rounds + 2,
-            r: modules,
-        },
+        net: Network::of_sizes(rounds + 2, rounds + 2, modules),
         calls: rounds_and_ladder(rounds, &inputs, &outputs),
     }
 }
@@ -622,11 +690,7 @@ fn draw_largest_ladder(random: &mut Random) -> CallTable {
 fn draw_path(random: &mut Random) -> CallTable {
     let modules = random.between(3, Network::MOST_MODULES);
     CallTable {
-        net: Network {
-            n: random.pick(&[2, 3]),
-            m: 2,
-            r: modules,
-        },
+        net: Network::of_sizes(random.pick(&[2, 3]), 2, modules),
         calls: calls_of_pairs(&path(modules)),
     }
 }
@@ -669,6 +733,9 @@ fn guessed_settings(random: &mut Random, table: &CallTable) -> Vec<u8> {
 /// Damages a settings row so that one of 9 to 13 is likely to hold of it.
 fn damage_setting(random: &mut Random, table: &CallTable, settings: &mut [u8], row: usize) {
     let cycle = table.net.cycle();
+    if cycle > table.net.least_cycle() && random.once_in(2) {
+        return mislead_light(random, table, settings, row);
+    }
     let setting = &mut settings[SETTING_BYTES * row..SETTING_BYTES * (row + 1)];
     match random.below(8) {
         0 => setting[random.below(SETTING_BYTES)] = random.byte(),
@@ -687,6 +754,25 @@ fn damage_setting(random: &mut Random, table: &CallTable, settings: &mut [u8], r
             setting.copy_from_slice(&setting_of(table.net, call, central));
         }
     }
+}
+
+/// Sends the light of a row to a spare port, or to where it would arrive if the remainder were taken
+/// by the larger of r and m: at the first grating or at the second. The cycle is above that larger.
+fn mislead_light(random: &mut Random, table: &CallTable, settings: &mut [u8], row: usize) {
+    let net = table.net;
+    let least = net.least_cycle();
+    let setting = &mut settings[SETTING_BYTES * row..SETTING_BYTES * (row + 1)];
+    let [input, output] = [0, 2].map(|side| usize::from(table.calls[CALL_BYTES * row + side]));
+    let central = usize::from(setting[1]);
+    let (place, wavelength) = match random.below(6) {
+        0 => (0, input + random.between(net.m, net.cycle() - 1)),
+        1 => (2, central + random.between(net.r, net.cycle() - 1)),
+        2 => (0, (input + central) % least),
+        3 => (0, (input + central) % least + least),
+        4 => (2, (central + output) % least),
+        _ => (2, (central + output) % least + least),
+    };
+    setting[place] = (wavelength % net.cycle()) as u8;
 }
 
 /// Puts a row on the central of an earlier row at the same module of one side, if there is one. The
@@ -716,9 +802,10 @@ fn borrow_central(
 
 // Files.
 
-/// A file of either kind with or without faults in its rows, then damaged half of the time.
-fn draw_file(random: &mut Random) -> Vec<u8> {
-    let table = draw_table(random);
+/// A file of either kind with or without faults in its rows, then damaged half of the time. Settings
+/// may be for another cycle than the one that the file is read with.
+fn draw_file(random: &mut Random, cycles: Cycles) -> Vec<u8> {
+    let table = draw_table(random, cycles);
     let note = draw_note(random);
     let mut file = if random.once_in(2) {
         file_of(KIND_CALLS, table.net, &note, &table.calls, &[])

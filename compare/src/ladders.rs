@@ -80,11 +80,7 @@ pub fn rounds_and_ladder(rounds: usize, inputs: &[usize], outputs: &[usize]) -> 
 }
 
 /// The largest network with as many centrals as channels: a full table has no central to spare.
-pub const LARGEST_TIGHT: Network = Network {
-    n: 16,
-    m: 16,
-    r: 64,
-};
+pub const LARGEST_TIGHT: Network = Network::of_sizes(16, 16, 64);
 
 /// 1,024 calls of it: fourteen rounds of 64 that fill the lower centrals, then a ladder on the upper
 /// two. The rows of its chains stand at the end of the table.

@@ -1,8 +1,9 @@
 //! Independent answers to the five entries of the shelf's control, the text of its listing program,
 //! and the means to compare two implementations of the entries.
 //!
-//! Every answer here is written from the scope document alone: its sentences, its table of numbers
-//! and its bench table.
+//! Every answer here is written from the documents alone: the sentences of the scope document 01, its
+//! table of numbers and its bench table, and request 1 of document 02, by which the gratings have a
+//! cycle of their own.
 //!
 //! Answers: `plain.rs`, and for speed `swift.rs`. Judgements beside them: `light.rs` and
 //! `refusals.rs`. Inputs: `inputs.rs`, `ladders.rs` and `faulty.rs`. Stored inputs: which, in
@@ -27,13 +28,15 @@ pub mod swift;
 pub mod tables;
 
 /// The three sizes: n channels of each module, m centrals, r input modules and as many output
-/// modules.
+/// modules. And w, the cycle of both gratings, by which every remainder and every limit of
+/// wavelengths is taken.
 #[derive(Clone, Copy, PartialEq, Eq, Debug)]
 #[repr(C)]
 pub struct Network {
     pub n: usize,
     pub m: usize,
     pub r: usize,
+    pub w: usize,
 }
 
 impl Network {
@@ -43,12 +46,31 @@ impl Network {
     pub const MOST_CENTRALS: usize = 32;
     /// The largest r.
     pub const MOST_MODULES: usize = 64;
+    /// The largest w.
+    pub const MOST_WAVELENGTHS: usize = 64;
     /// The largest K.
     pub const MOST_ROWS: usize = 1024;
 
-    /// The number of wavelengths inside the shelf: the larger of r and m.
-    pub fn cycle(&self) -> usize {
-        self.r.max(self.m)
+    /// The network of three sizes alone, whose cycle is the larger of r and m: that of a file of kind
+    /// 1 or 2, and of the bench table.
+    pub const fn of_sizes(n: usize, m: usize, r: usize) -> Network {
+        let w = if r < m { m } else { r };
+        Network { n, m, r, w }
+    }
+
+    /// The network of the same sizes with another cycle.
+    pub const fn with_cycle(self, w: usize) -> Network {
+        Network { w, ..self }
+    }
+
+    /// The number of wavelengths inside the shelf: w.
+    pub const fn cycle(&self) -> usize {
+        self.w
+    }
+
+    /// The least cycle that reaches all modules and all centrals: the larger of r and m.
+    pub const fn least_cycle(&self) -> usize {
+        Network::of_sizes(self.n, self.m, self.r).w
     }
 }
 
@@ -71,8 +93,8 @@ pub const KIND_PLANNED: usize = 2;
 pub const LONGEST_FILE: usize =
     LONGEST_NOTE + (CALL_BYTES + SETTING_BYTES) * Network::MOST_ROWS + TRAILER_BYTES;
 
-/// The highest number of a refusal.
-pub const HIGHEST_NUMBER: usize = 16;
+/// The highest number of a refusal. No refusal has the number 17.
+pub const HIGHEST_NUMBER: usize = 18;
 
 /// A refusal: its number, and the row it tells.
 #[derive(Clone, Copy, PartialEq, Eq, Debug)]
@@ -98,7 +120,8 @@ pub struct Planned {
     pub moved: usize,
 }
 
-/// The answer of the reader. All but number and row are 0 where the file is refused.
+/// The answer of the reader. All but number and row are 0 where the file is refused. The cycle is
+/// not told: it is the larger of r and m.
 #[derive(Clone, Copy, PartialEq, Eq, Default, Debug)]
 #[repr(C)]
 pub struct Told {

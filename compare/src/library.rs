@@ -75,6 +75,7 @@ fn network(net: Network) -> bolikwaru::Network {
         n: net.n,
         m: net.m,
         r: net.r,
+        w: net.w,
     }
 }
 

@@ -1,6 +1,7 @@
-//! The light of settings, followed as document 01 says in "How light travels". Nothing here asks
-//! acceptance or planner: what lawful settings are is decided by the light alone. Sizes are within
-//! their limits; numbers in rows may be any bytes.
+//! The light of settings, followed as document 01 says in "How light travels", with W for Λ, as
+//! request 1 of document 02 asks. Nothing here asks acceptance or planner: what lawful settings are
+//! is decided by the light alone. Sizes and cycle are within their limits; numbers in rows may be
+//! any bytes.
 
 use crate::{Network, CALL_BYTES, SETTING_BYTES};
 
@@ -36,7 +37,8 @@ pub type Path = [Option<Place>; 4];
 /// Follows the light of one row. A wavelength x that enters the first grating at α leaves it at
 /// p = [x − α], and is lost there if there is no central p. Central p turns x into y, whichever
 /// central the row names. From there y leaves the second grating at q = [y − p], and is lost if
-/// there is no output module q.
+/// there is no output module q. With W above m the first grating has ports without a central, and
+/// with W above r the second has ports without an output module.
 pub fn follow(net: Network, call: &[u8], setting: &[u8]) -> Path {
     let [input, x, y] = [call[0], setting[0], setting[2]].map(usize::from);
     let central = leaves_at(net, x, input);
@@ -106,7 +108,7 @@ pub fn lawful(net: Network, calls: &[u8], settings: &[u8]) -> bool {
     all_arrive && none_collide(&paths)
 }
 
-/// Whether a row has x < Λ, y < Λ, γ < m, p = γ and q = β.
+/// Whether a row has x < W, y < W, γ < m, p = γ and q = β.
 fn arrives(net: Network, call: &[u8], setting: &[u8], path: &Path) -> bool {
     let [x, central, y, output] = [setting[0], setting[1], setting[2], call[2]].map(usize::from);
     let is_at =
@@ -138,7 +140,7 @@ mod tests {
 
     #[test]
     fn light_passes_four_links() {
-        let net = Network { n: 2, m: 2, r: 3 };
+        let net = Network::of_sizes(2, 2, 3);
         let path = follow(net, &[1, 1, 1, 1], &[2, 1, 2]);
         assert_eq!(path, [place(1, 2), place(1, 2), place(1, 2), place(1, 2)]);
         let path = follow(net, &[2, 0, 0, 0], &[0, 1, 1]);
@@ -146,18 +148,36 @@ mod tests {
     }
 
     #[test]
+    fn light_takes_the_remainder_by_the_cycle() {
+        let net = Network::of_sizes(2, 3, 3).with_cycle(4);
+        let path = follow(net, &[2, 0, 2, 0], &[0, 2, 0]);
+        assert_eq!(path, [place(2, 0), place(2, 0), place(2, 0), place(2, 0)]);
+    }
+
+    #[test]
     fn light_is_lost_where_nothing_is_at_the_port() {
-        let few_centrals = Network { n: 2, m: 2, r: 3 };
+        let few_centrals = Network::of_sizes(2, 2, 3);
         let path = follow(few_centrals, &[0, 0, 0, 0], &[2, 0, 0]);
         assert_eq!(path, [place(0, 2), None, None, None]);
-        let few_modules = Network { n: 2, m: 3, r: 2 };
+        let few_modules = Network::of_sizes(2, 3, 2);
         let path = follow(few_modules, &[0, 0, 0, 0], &[0, 0, 2]);
         assert_eq!(path, [place(0, 0), place(0, 0), place(0, 2), None]);
     }
 
     #[test]
+    fn light_is_lost_at_spare_ports_of_both_gratings() {
+        let net = Network::of_sizes(2, 2, 2).with_cycle(4);
+        for spare in 2..4 {
+            let path = follow(net, &[1, 0, 0, 0], &[(1 + spare) % 4, 0, 0]);
+            assert_eq!(path[1..], [None; 3]);
+            let path = follow(net, &[1, 0, 0, 0], &[2, 1, (1 + spare) % 4]);
+            assert!(path[2].is_some() && path[3].is_none());
+        }
+    }
+
+    #[test]
     fn lost_light_collides_only_where_it_was() {
-        let net = Network { n: 2, m: 2, r: 3 };
+        let net = Network::of_sizes(2, 2, 3);
         let lost = follow(net, &[0, 0, 0, 0], &[2, 0, 0]);
         assert_eq!(shared(&lost, &lost), [Link::InputToFirstGrating]);
         let whole = follow(net, &[0, 0, 0, 0], &[0, 0, 0]);

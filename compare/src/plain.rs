@@ -1,4 +1,4 @@
-//! The answers straight from the document's sentences: each refusal is sought row by row, by
+//! The answers straight from the documents' sentences: each refusal is sought row by row, by
 //! comparison with all earlier rows, and the planner follows the choice rule literally. Obviousness
 //! comes before speed.
 
@@ -153,6 +153,7 @@ fn try_write(
     if kind == KIND_PLANNED {
         check_settings(net, &rows, &settings_of(settings))?;
     }
+    check_cycle_to_write(net)?;
     out[..file.len()].copy_from_slice(&file);
     Ok(rows.len())
 }
@@ -259,7 +260,10 @@ fn check_sizes(net: Network) -> Result<(), Refusal> {
         && 1 <= net.m
         && net.m <= Network::MOST_CENTRALS
         && 1 <= net.r
-        && net.r <= Network::MOST_MODULES;
+        && net.r <= Network::MOST_MODULES
+        && net.r <= net.w
+        && net.m <= net.w
+        && net.w <= Network::MOST_WAVELENGTHS;
     if within {
         Ok(())
     } else {
@@ -296,6 +300,15 @@ fn check_room(room: usize, needed: usize) -> Result<(), Refusal> {
         Ok(())
     } else {
         refuse(4, 0)
+    }
+}
+
+/// Refuses a cycle for which a file of kind 1 or 2 has no place.
+fn check_cycle_to_write(net: Network) -> Result<(), Refusal> {
+    if net.w == net.r.max(net.m) {
+        Ok(())
+    } else {
+        refuse(18, 0)
     }
 }
 
@@ -517,7 +530,8 @@ fn settings_for(net: Network, calls: &[Call], centrals: &[usize]) -> Vec<Setting
 
 // The plan file.
 
-/// A trailer taken apart, with a mark and a kind that are right.
+/// A trailer taken apart, with a mark and a kind that are right. The network's cycle is the larger of
+/// r and m, since the trailer states none.
 struct Trailer {
     net: Network,
     kind: usize,
@@ -569,12 +583,9 @@ fn take_trailer(file: &[u8]) -> Result<Trailer, Refusal> {
     if bytes[10..] != MARK || (kind != KIND_CALLS && kind != KIND_PLANNED) {
         return refuse(14, 0);
     }
+    let [n, m, r] = [bytes[0], bytes[1], bytes[2]].map(usize::from);
     Ok(Trailer {
-        net: Network {
-            n: usize::from(bytes[0]),
-            m: usize::from(bytes[1]),
-            r: usize::from(bytes[2]),
-        },
+        net: Network::of_sizes(n, m, r),
         kind,
         count: number_at(4),
         settings_distance: number_at(6),
@@ -613,11 +624,7 @@ pub fn listing(file: &[u8]) -> Vec<u8> {
 /// accepted when it was read, and is listed with the settings it holds.
 fn try_list(file: &[u8]) -> Result<String, Refusal> {
     let told = try_read(file)?;
-    let net = Network {
-        n: told.n,
-        m: told.m,
-        r: told.r,
-    };
+    let net = Network::of_sizes(told.n, told.m, told.r);
     let calls = &file[told.calls_at..told.settings_at];
     let (moved, settings) = if told.kind == KIND_CALLS {
         let plan = try_plan(net, calls, SETTING_BYTES * told.count)?;

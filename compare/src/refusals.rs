@@ -1,6 +1,7 @@
-//! Which refusals apply to an input, each judged by its own sentence of document 01, and which of
-//! them is owed by the order of the entry. This is a judgement of its own beside `plain.rs`, of
-//! which it uses nothing: it leans on the forms of `inputs.rs` and on the constants of the package.
+//! Which refusals apply to an input, each judged by its own sentence of document 01 or of request 1
+//! of document 02, and which of them is owed by the order of the entry. This is a judgement of its
+//! own beside `plain.rs`, of which it uses nothing: it leans on the forms of `inputs.rs` and on the
+//! constants of the package.
 
 use crate::inputs::Input;
 use crate::{
@@ -31,15 +32,15 @@ impl Asked {
         Asked::WritePlanned,
     ];
 
-    /// The refusals that the entry can give, in the document's order.
+    /// The refusals that the entry can give, in the documents' order.
     pub fn order(self) -> &'static [usize] {
         match self {
             Asked::Plan => &[1, 2, 3, 4, 5, 6, 7, 8],
             Asked::Accept => &[1, 2, 3, 5, 6, 7, 9, 10, 11, 12, 13],
             Asked::ReadCalls => &[14, 1, 3, 15, 5, 6, 7],
             Asked::ReadPlanned => &[14, 1, 3, 15, 5, 6, 7, 9, 10, 11, 12, 13],
-            Asked::WriteCalls => &[1, 2, 3, 16, 4, 5, 6, 7],
-            Asked::WritePlanned => &[1, 2, 3, 16, 4, 5, 6, 7, 9, 10, 11, 12, 13],
+            Asked::WriteCalls => &[1, 2, 3, 16, 4, 5, 6, 7, 18],
+            Asked::WritePlanned => &[1, 2, 3, 16, 4, 5, 6, 7, 9, 10, 11, 12, 13, 18],
         }
     }
 }
@@ -55,19 +56,18 @@ fn is_of_settings(number: usize) -> bool {
 }
 
 /// The answer that is owed when these refusals apply: the first in the entry's order, but of 9 to
-/// 13 the one in the lowest row, and in one row the lowest number.
+/// 13, which have one turn together, the one in the lowest row, and in one row the lowest number.
 pub fn first_in_order(order: &[usize], applying: &[Refusal]) -> Option<Refusal> {
-    let before_settings = order
-        .iter()
-        .filter(|&&number| !is_of_settings(number))
-        .find_map(|&number| applying.iter().find(|refusal| refusal.number == number));
-    before_settings.copied().or_else(|| {
-        applying
+    let turn_of = |number: usize| {
+        order
             .iter()
-            .filter(|refusal| order.contains(&refusal.number))
-            .min_by_key(|refusal| (refusal.row, refusal.number))
-            .copied()
-    })
+            .position(|&other| other == number || is_of_settings(other) && is_of_settings(number))
+    };
+    applying
+        .iter()
+        .filter(|refusal| order.contains(&refusal.number))
+        .min_by_key(|refusal| (turn_of(refusal.number), refusal.row, refusal.number))
+        .copied()
 }
 
 // The refusals of each entry.
@@ -147,6 +147,7 @@ fn of_write_calls(
     let needed = note.len() + CALL_BYTES * count + TRAILER_BYTES;
     add_if(&mut list, 4, room < needed);
     add_call_refusals(&mut list, net, calls);
+    add_if(&mut list, 18, has_no_place_in_files(net));
     list
 }
 
@@ -162,6 +163,7 @@ fn of_write_planned(
     add_if(&mut list, 16, note.len() > LONGEST_NOTE);
     let needed = note.len() + (CALL_BYTES + SETTING_BYTES) * count + TRAILER_BYTES;
     add_if(&mut list, 4, room < needed);
+    add_if(&mut list, 18, has_no_place_in_files(net));
     list
 }
 
@@ -173,11 +175,8 @@ fn of_read(file: &[u8]) -> Vec<Refusal> {
     }
     let (body, trailer) = file.split_at(file.len() - TRAILER_BYTES);
     let number_at = |at: usize| usize::from(u16::from_be_bytes([trailer[at], trailer[at + 1]]));
-    let net = Network {
-        n: usize::from(trailer[0]),
-        m: usize::from(trailer[1]),
-        r: usize::from(trailer[2]),
-    };
+    let size_at = |at: usize| usize::from(trailer[at]);
+    let net = Network::of_sizes(size_at(0), size_at(1), size_at(2));
     let count = number_at(4);
     let kind = usize::from(trailer[3]);
     let is_planned = kind == KIND_PLANNED;
@@ -228,13 +227,19 @@ fn add_first_row(
 }
 
 fn sizes_are_outside(net: Network) -> bool {
-    [
+    let outside_limits = [
         (net.n, Network::MOST_CHANNELS),
         (net.m, Network::MOST_CENTRALS),
         (net.r, Network::MOST_MODULES),
     ]
     .iter()
-    .any(|&(size, most)| size == 0 || size > most)
+    .any(|&(size, most)| size == 0 || size > most);
+    outside_limits || net.w < net.r || net.w < net.m || net.w > Network::MOST_WAVELENGTHS
+}
+
+/// Whether a file of kind 1 or 2 would be read with another cycle.
+fn has_no_place_in_files(net: Network) -> bool {
+    net != Network::of_sizes(net.n, net.m, net.r)
 }
 
 /// Whole rows of so many bytes.

@@ -1,11 +1,11 @@
 //! How an input and its answer are stored. The answers are those of `plain.rs`, given by way of
 //! `comparison.rs`; which inputs are stored is the matter of `catalogue.rs`.
 //!
-//! An input has a head of 33 bytes: the entry by one byte; n, m and r by eight bytes each; the
+//! An input has a head of 41 bytes: the entry by one byte; n, m, r and w by eight bytes each; the
 //! lengths of note, calls, settings and room by two bytes each; all with the high byte first. The
 //! bytes of these four follow. The entries are 0 plan, 1 accept, 2 read, 3 write_calls,
-//! 4 write_planned and 5 list. A file to be read or listed stands in the place of the calls, and the
-//! settings that the planner is to write stand in the place of the room.
+//! 4 write_planned and 5 list. A file to be read or listed stands in the place of the calls, and has
+//! zeros for the network; the settings that the planner is to write stand in the place of the room.
 //!
 //! The answer is a line: the numbers, each with a space after it, then the bytes of the room as they
 //! are afterwards, by two hexadecimal digits each. For a file to be listed the numbers are the length
@@ -28,7 +28,7 @@ pub enum Stored {
 /// The listing program's number among the entries of stored inputs.
 const LIST: u8 = 5;
 
-/// The head's entry and sizes, and the four parts of an input in their stored order.
+/// The head's entry and network, and the four parts of an input in their stored order.
 struct Parts<'a> {
     entry: u8,
     net: Network,
@@ -54,7 +54,7 @@ fn no_bytes(entry: u8, net: Network) -> Parts<'static> {
 fn parts_of_file(entry: u8, file: &[u8]) -> Parts<'_> {
     Parts {
         calls: file,
-        ..no_bytes(entry, Network { n: 0, m: 0, r: 0 })
+        ..no_bytes(entry, Network::of_sizes(0, 0, 0))
     }
 }
 
@@ -108,12 +108,13 @@ fn parts_of(stored: &Stored) -> Parts<'_> {
     }
 }
 
-/// The bytes of a stored input; none where a length doesn't fit two bytes. Sizes are stored whole.
+/// The bytes of a stored input; none where a length doesn't fit two bytes. Sizes and cycle are stored
+/// whole.
 pub fn stored_input(stored: &Stored) -> Option<Vec<u8>> {
     let parts = parts_of(stored);
     let mut bytes = vec![parts.entry];
-    for size in [parts.net.n, parts.net.m, parts.net.r] {
-        bytes.extend((size as u64).to_be_bytes());
+    for number in [parts.net.n, parts.net.m, parts.net.r, parts.net.w] {
+        bytes.extend((number as u64).to_be_bytes());
     }
     let contents = [parts.note, parts.calls, parts.settings, parts.room];
     for content in contents {
@@ -168,13 +169,9 @@ mod tests {
     use super::*;
 
     #[test]
-    fn heads_hold_whole_sizes() {
+    fn heads_hold_whole_sizes_and_cycles() {
         let input = Input::WritePlanned {
-            net: Network {
-                n: 3,
-                m: 1 << 63,
-                r: 65_537,
-            },
+            net: Network::of_sizes(3, 1 << 63, 65_537).with_cycle((1 << 32) + 5),
             note: vec![7],
             calls: vec![8; 258],
             settings: vec![],
@@ -182,19 +179,19 @@ mod tests {
         };
         let bytes = stored_input(&Stored::Input(input)).expect("every length fits two bytes");
         let head = [
-            4, 0, 0, 0, 0, 0, 0, 0, 3, 128, 0, 0, 0, 0, 0, 0, 0, 0, 0, 0, 0, 0, 1, 0, 1, 0, 1, 1,
-            2, 0, 0, 0, 2,
+            4, 0, 0, 0, 0, 0, 0, 0, 3, 128, 0, 0, 0, 0, 0, 0, 0, 0, 0, 0, 0, 0, 1, 0, 1, 0, 0, 0,
+            1, 0, 0, 0, 5, 0, 1, 1, 2, 0, 0, 0, 2,
         ];
-        assert_eq!(bytes[..33], head);
-        assert_eq!(bytes[33..], [&[7][..], &[8; 258], &[9, 10]].concat());
+        assert_eq!(bytes[..41], head);
+        assert_eq!(bytes[41..], [&[7][..], &[8; 258], &[9, 10]].concat());
     }
 
     #[test]
     fn files_to_be_listed_stand_in_the_place_of_the_calls() {
         let stored = Stored::List { file: vec![6] };
         let bytes = stored_input(&stored).expect("every length fits two bytes");
-        assert_eq!(bytes[..25], [&[5][..], &[0; 24]].concat());
-        assert_eq!(bytes[25..], [0, 0, 0, 1, 0, 0, 0, 0, 6]);
+        assert_eq!(bytes[..33], [&[5][..], &[0; 32]].concat());
+        assert_eq!(bytes[33..], [0, 0, 0, 1, 0, 0, 0, 0, 6]);
         let text = b"refused 14 row 0\n";
         let digits: String = text.iter().map(|byte| format!("{:02x}", byte)).collect();
         assert_eq!(stored_answer(&stored), format!("17 0 {}\n", digits));

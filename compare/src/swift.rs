@@ -125,11 +125,8 @@ fn check_read(file: &[u8]) -> Result<Told, Refusal> {
     if trailer[10..] != MARK || (kind != KIND_CALLS && kind != KIND_PLANNED) {
         return refuse(14, 0);
     }
-    let net = Network {
-        n: usize::from(trailer[0]),
-        m: usize::from(trailer[1]),
-        r: usize::from(trailer[2]),
-    };
+    let [n, m, r] = [trailer[0], trailer[1], trailer[2]].map(usize::from);
+    let net = Network::of_sizes(n, m, r);
     check_sizes(net)?;
     let count = two_byte_number(trailer[4], trailer[5]);
     check_count(count)?;
@@ -186,6 +183,9 @@ fn write(
     if kind == KIND_PLANNED {
         check_settings(net, calls, settings)?;
     }
+    if net.cycle() != net.least_cycle() {
+        return refuse(18, 0);
+    }
     let rest = append(append(append(out, note), calls), settings);
     let [count_high, count_low] = two_bytes(count);
     let [settings_high, settings_low] = two_bytes(settings.len());
@@ -236,7 +236,8 @@ fn settings_bytes_of(kind: usize, count: usize) -> usize {
 fn check_sizes(net: Network) -> Result<(), Refusal> {
     let within = (1..=Network::MOST_CHANNELS).contains(&net.n)
         && (1..=Network::MOST_CENTRALS).contains(&net.m)
-        && (1..=Network::MOST_MODULES).contains(&net.r);
+        && (1..=Network::MOST_MODULES).contains(&net.r)
+        && (net.least_cycle()..=Network::MOST_WAVELENGTHS).contains(&net.cycle());
     if within {
         Ok(())
     } else {

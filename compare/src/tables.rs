@@ -19,13 +19,9 @@ pub struct Table {
 const NOTE: [u8; 16] = *b"benchmark's note";
 
 /// More centrals than a module has channels.
-const SPREAD: Network = Network {
-    n: 16,
-    m: 32,
-    r: 64,
-};
+const SPREAD: Network = Network::of_sizes(16, 32, 64);
 
-const NARROW: Network = Network { n: 2, m: 2, r: 64 };
+const NARROW: Network = Network::of_sizes(2, 2, 64);
 
 impl Table {
     fn new(name: &'static str, net: Network, calls: Vec<u8>) -> Table {

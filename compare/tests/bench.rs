@@ -8,7 +8,7 @@ const CASE_3: [u8; 16] = [0, 0, 0, 0, 1, 0, 1, 0, 1, 1, 0, 1, 0, 1, 1, 1];
 const CASE_4: [u8; 16] = [0, 0, 0, 0, 0, 1, 1, 0, 1, 0, 2, 0, 1, 1, 1, 1];
 
 fn network(n: usize, m: usize, r: usize) -> Network {
-    Network { n, m, r }
+    Network::of_sizes(n, m, r)
 }
 
 /// A success of the planner: the settings, and the moved count. Two bytes beyond them keep their

@@ -18,10 +18,10 @@ const GIVEN: [(Entry, &[usize]); 5] = [
     (Entry::Plan, &[0, 1, 2, 3, 4, 5, 6, 7, 8]),
     (Entry::Accept, &[0, 1, 2, 3, 5, 6, 7, 9, 10, 11, 12, 13]),
     (Entry::Read, &[0, 14, 1, 3, 15, 5, 6, 7, 9, 10, 11, 12, 13]),
-    (Entry::WriteCalls, &[0, 1, 2, 3, 16, 4, 5, 6, 7]),
+    (Entry::WriteCalls, &[0, 1, 2, 3, 16, 4, 5, 6, 7, 18]),
     (
         Entry::WritePlanned,
-        &[0, 1, 2, 3, 16, 4, 5, 6, 7, 9, 10, 11, 12, 13],
+        &[0, 1, 2, 3, 16, 4, 5, 6, 7, 9, 10, 11, 12, 13, 18],
     ),
 ];
 
@@ -61,5 +61,5 @@ fn drawn_inputs() {
 fn every_small_input() {
     let coverage = compare_exhaustively(&Plain, &Swift).expect("both answer alike");
     print_coverage(&coverage);
-    assert!(coverage.total() > 500_000);
+    assert!(coverage.total() > 2_000_000);
 }

@@ -4,7 +4,7 @@
 
 use compare::inputs::{call_of, drawn, settings_length, Input};
 use compare::ladders::calls_of_pairs;
-use compare::light::{follow, lawful, shared, Link};
+use compare::light::{follow, lawful, shared, Link, Path};
 use compare::plain::Plain;
 use compare::{Entries, Network, CALL_BYTES, SETTING_BYTES};
 
@@ -41,16 +41,28 @@ fn all_settings(rows: usize, limit: usize) -> Vec<Vec<u8>> {
         .collect()
 }
 
-fn networks(most: Network) -> Vec<Network> {
+/// All networks up to these sizes, by three sizes alone.
+fn networks(n: usize, m: usize, r: usize) -> Vec<Network> {
     let mut networks = Vec::new();
-    for n in 1..=most.n {
-        for m in 1..=most.m {
-            for r in 1..=most.r {
-                networks.push(Network { n, m, r });
+    for n in 1..=n {
+        for m in 1..=m {
+            for r in 1..=r {
+                networks.push(Network::of_sizes(n, m, r));
             }
         }
     }
     networks
+}
+
+/// The networks, each also with every cycle above its own up to the most.
+fn with_spare_ports(networks: Vec<Network>, most: usize) -> Vec<Network> {
+    networks
+        .into_iter()
+        .flat_map(|net| {
+            let least = net.cycle();
+            (least..=most.max(least)).map(move |cycle| net.with_cycle(cycle))
+        })
+        .collect()
 }
 
 /// All calls of a network.
@@ -93,13 +105,15 @@ fn assert_judged(net: Network, calls: &[u8], settings: &[u8]) -> bool {
     is_lawful
 }
 
-/// All networks up to 2-4-4, each call alone, all settings with numbers up to 8: past two cycles of
-/// the largest.
+/// All networks up to 2-4-4, with cycles up to 4 and those up to 1-3-3 up to 6, each call alone, all
+/// settings with numbers up to 8: past each cycle, and past two cycles of 4.
 #[test]
 fn one_row_is_accepted_when_its_light_arrives() {
     let settings = all_settings(1, 9);
     let mut accepted = 0;
-    for net in networks(Network { n: 2, m: 4, r: 4 }) {
+    let few_cycles = with_spare_ports(networks(2, 4, 4), 4);
+    let more_cycles = with_spare_ports(networks(1, 3, 3), 6);
+    for net in [few_cycles, more_cycles].concat() {
         for calls in all_calls(net) {
             let lawful_here = settings
                 .iter()
@@ -113,16 +127,57 @@ fn one_row_is_accepted_when_its_light_arrives() {
     assert!(accepted > 0);
 }
 
-/// Networks up to 2-3-2, or 2-3-3 where that is fast, every table of two rows in order, all settings
-/// with numbers up to Λ.
+/// How many rows were lost at each grating, and how many of them would have gone on to the port that
+/// they name if that grating took its remainder by the larger of r and m.
+#[derive(Default, Debug)]
+struct Lost {
+    rows: [usize; 2],
+    misled: [usize; 2],
+}
+
+impl Lost {
+    /// Counts a row, if it is lost at the first grating, which acceptance refuses by 10, or at the
+    /// second from the central that it names, which it refuses by 11. The numbers of the settings are
+    /// below their limits.
+    fn count(&mut self, net: Network, call: &[u8], setting: &[u8]) {
+        let [input, output] = [call[0], call[2]].map(usize::from);
+        let [x, central, y] = [setting[0], setting[1], setting[2]].map(usize::from);
+        let path = follow(net, call, setting);
+        let (grating, wavelength, needed) = match (path[1], path[3]) {
+            (None, _) => (0, x, input + central),
+            (Some(reached), None) if reached.port == central => (1, y, central + output),
+            _ => return,
+        };
+        let answer = Plain.accept(net, call, setting);
+        assert_eq!((answer.number, answer.row), (10 + grating, 0));
+        let least = net.least_cycle();
+        self.rows[grating] += 1;
+        self.misled[grating] += usize::from(wavelength % least == needed % least);
+    }
+}
+
+/// Networks up to 1-3-3 with cycles up to 5, each call alone, all settings with wavelengths below W
+/// and centrals below m.
+#[test]
+fn lost_light_is_refused_at_both_gratings() {
+    let mut lost = Lost::default();
+    for net in with_spare_ports(networks(1, 3, 3), 5) {
+        let settings = all_settings(1, net.cycle());
+        for call in all_calls(net) {
+            for setting in settings.iter().filter(|row| usize::from(row[1]) < net.m) {
+                lost.count(net, &call, setting);
+            }
+        }
+    }
+    assert!(lost.rows.iter().all(|&rows| rows > 300), "{:?}", lost);
+    assert!(lost.misled.iter().all(|&rows| rows > 100), "{:?}", lost);
+}
+
+/// Networks up to 2-3-2, or 2-3-3 where that is fast, with cycles up to 3, every table of two rows in
+/// order, all settings with numbers up to W.
 #[test]
 fn two_rows_are_accepted_when_their_light_stays_apart() {
-    let most = Network {
-        n: 2,
-        m: 3,
-        r: HIGHEST_R,
-    };
-    for net in networks(most) {
+    for net in with_spare_ports(networks(2, 3, HIGHEST_R), 3) {
         let settings = all_settings(2, net.cycle() + 1);
         for calls in tables_of_two(net) {
             let accepted = settings
@@ -140,7 +195,7 @@ fn two_rows_are_accepted_when_their_light_stays_apart() {
 /// No calls with no settings are lawful. A row too many or too few is not.
 #[test]
 fn settings_have_a_row_for_each_call() {
-    let net = Network { n: 2, m: 2, r: 2 };
+    let net = Network::of_sizes(2, 2, 2);
     let calls = [0, 0, 0, 0, 1, 0, 1, 0];
     let settings = [0, 0, 0, 1, 0, 1, 0, 0, 0];
     for rows in 0..=2 {
@@ -154,10 +209,11 @@ fn settings_have_a_row_for_each_call() {
 // Which links are shared.
 
 /// The sets of kinds of link that two rows share, over all networks of up to four centrals and four
-/// modules, with α below what is given for the network, and x and y below two cycles.
+/// modules with cycles up to 4, with α below what is given for the network, and x and y below two
+/// cycles.
 fn shared_sets(inputs_below: fn(Network) -> usize) -> Vec<Vec<Link>> {
     let mut sets = Vec::new();
-    for net in networks(Network { n: 1, m: 4, r: 4 }) {
+    for net in with_spare_ports(networks(1, 4, 4), 4) {
         let mut paths = Vec::new();
         for input in 0..inputs_below(net) {
             for xy in lists(2, 2 * net.cycle()) {
@@ -208,10 +264,31 @@ fn light_that_meets_has_met_before() {
 
 // Drawn.
 
+/// Whether light of some row ends at a spare port of either grating: at the first before it reaches a
+/// central, at the second before it reaches an output module.
+fn ends_at_spare_port(net: Network, calls: &[u8], settings: &[u8]) -> [bool; 2] {
+    let rows = calls
+        .chunks_exact(CALL_BYTES)
+        .zip(settings.chunks_exact(SETTING_BYTES));
+    let paths: Vec<Path> = rows
+        .map(|(call, setting)| follow(net, call, setting))
+        .collect();
+    let is_spare = net.cycle() > net.least_cycle();
+    [
+        is_spare && paths.iter().any(|path| path[1].is_none()),
+        is_spare
+            && paths
+                .iter()
+                .any(|path| path[2].is_some() && path[3].is_none()),
+    ]
+}
+
 #[test]
 fn drawn_settings_are_accepted_when_they_are_lawful() {
     let mut accepted = 0;
+    let mut with_spare_ports = 0;
     let mut refused = 0;
+    let mut lost = [0; 2];
     for input in drawn(11).take(DRAWN) {
         if let Input::Accept {
             net,
@@ -223,16 +300,23 @@ fn drawn_settings_are_accepted_when_they_are_lawful() {
                 0 => {
                     assert!(lawful(net, &calls, &settings));
                     accepted += 1;
+                    with_spare_ports += usize::from(net.cycle() > net.least_cycle());
                 }
                 9..=13 => {
                     assert!(!lawful(net, &calls, &settings));
                     refused += 1;
+                    let ends = ends_at_spare_port(net, &calls, &settings);
+                    for (count, is_lost) in lost.iter_mut().zip(ends) {
+                        *count += usize::from(is_lost);
+                    }
                 }
                 _ => {}
             }
         }
     }
     assert!(accepted > DRAWN / 50 && refused > DRAWN / 50);
+    assert!(with_spare_ports > DRAWN / 100, "{}", with_spare_ports);
+    assert!(lost.iter().all(|&count| count > DRAWN / 200), "{:?}", lost);
 }
 
 // Overfull modules.
@@ -253,6 +337,7 @@ fn is_overfull(net: Network, calls: &[u8]) -> bool {
 #[test]
 fn planned_settings_are_lawful_unless_a_module_is_overfull() {
     let mut planned = 0;
+    let mut with_spare_ports = 0;
     for input in drawn(12).take(DRAWN) {
         if let Input::Plan { net, calls, .. } = input {
             let mut settings = vec![0; settings_length(&calls)];
@@ -262,13 +347,14 @@ fn planned_settings_are_lawful_unless_a_module_is_overfull() {
                     assert_eq!(Plain.accept(net, &calls, &settings).number, 0);
                     assert!(lawful(net, &calls, &settings));
                     planned += 1;
+                    with_spare_ports += usize::from(net.cycle() > net.least_cycle());
                 }
                 8 => assert!(is_overfull(net, &calls)),
                 _ => {}
             }
         }
     }
-    assert!(planned > DRAWN / 10);
+    assert!(planned > DRAWN / 10 && with_spare_ports > DRAWN / 20);
 }
 
 /// All tables of so many calls, up to the channels, which come one after the other at each module.
@@ -284,27 +370,38 @@ fn tables_by_modules(rows: usize, modules: usize) -> Vec<Vec<u8>> {
 }
 
 /// Where some module has m + 1 calls no settings are lawful, and elsewhere the planner's are: all
-/// tables of m + 1 calls, with one central and with two, and all settings with numbers below Λ. A
-/// row with another number is unlawful by itself.
+/// tables of m + 1 calls, and all settings with numbers below W. A row with another number is
+/// unlawful by itself.
+fn assert_overfull_or_planned(net: Network) {
+    let count = net.m + 1;
+    let settings = all_settings(count, net.cycle());
+    let mut overfull = 0;
+    for calls in tables_by_modules(count, net.r) {
+        let mut planned = vec![0; SETTING_BYTES * count];
+        let answer = Plain.plan(net, &calls, &mut planned);
+        if is_overfull(net, &calls) {
+            assert!(!settings.iter().any(|rows| lawful(net, &calls, rows)));
+            assert_eq!(answer.number, 8);
+            overfull += 1;
+        } else {
+            assert_eq!(answer.number, 0);
+            assert!(lawful(net, &calls, &planned));
+        }
+    }
+    assert!(overfull > 0);
+}
+
+/// With one central and cycles up to 4, and with two: these with a cycle of 3 for one module, and by
+/// the three sizes alone for more.
 #[test]
 fn no_settings_of_an_overfull_table_are_lawful() {
-    for (m, most_modules) in [(1, 3), (2, HIGHEST_R)] {
-        for r in 1..=most_modules {
-            let net = Network { n: m + 1, m, r };
-            let settings = all_settings(m + 1, net.cycle());
-            let mut overfull = 0;
-            for calls in tables_by_modules(m + 1, r) {
-                if is_overfull(net, &calls) {
-                    assert!(!settings.iter().any(|rows| lawful(net, &calls, rows)));
-                    assert_eq!(Plain.plan(net, &calls, &mut [0; 9]).number, 8);
-                    overfull += 1;
-                } else {
-                    let mut planned = vec![0; SETTING_BYTES * (m + 1)];
-                    assert_eq!(Plain.plan(net, &calls, &mut planned).number, 0);
-                    assert!(lawful(net, &calls, &planned));
-                }
-            }
-            assert!(overfull > 0);
+    for r in 1..=3 {
+        for net in with_spare_ports(vec![Network::of_sizes(2, 1, r)], 4) {
+            assert_overfull_or_planned(net);
         }
+    }
+    assert_overfull_or_planned(Network::of_sizes(3, 2, 1).with_cycle(3));
+    for r in 1..=HIGHEST_R {
+        assert_overfull_or_planned(Network::of_sizes(3, 2, r));
     }
 }

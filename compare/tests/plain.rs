@@ -1,10 +1,11 @@
-//! Independent checks of the plain implementation: the moved count is counted from outside, and
-//! files go to and fro. What the light does is checked in `light.rs`.
+//! Independent checks of the plain implementation: the moved count is counted from outside, the choice
+//! of centrals doesn't depend on the cycle, and files go to and fro. What the light does is checked in
+//! `light.rs`.
 
 use compare::inputs::{drawn, Input};
 use compare::ladders::{calls_of_pairs, ladder, largest_ladder, path, LARGEST_TIGHT};
 use compare::plain::{chain_lengths, Plain};
-use compare::{Entries, Network};
+use compare::{Entries, Network, Planned};
 
 /// Fewer inputs where the code is compiled without speed.
 const DRAWN: usize = if cfg!(debug_assertions) {
@@ -51,13 +52,101 @@ fn moved_counts_the_rows_that_change() {
 
 #[test]
 fn chains_are_long_where_they_are_meant_to_be() {
-    let net = Network { n: 2, m: 2, r: 64 };
+    let net = Network::of_sizes(2, 2, 64);
     assert_eq!(chain_lengths(net, &calls_of_pairs(&path(64))), [124]);
     let growing = chain_lengths(net, &calls_of_pairs(&ladder(64)));
     assert_eq!(growing.len(), 42);
     assert!(growing.windows(2).all(|two| two[0] < two[1]));
     assert_eq!(growing[41], 125);
     assert_eq!(chain_lengths(LARGEST_TIGHT, &largest_ladder()), growing);
+}
+
+// The cycle.
+
+/// The planner's answer, and the centrals that it writes.
+fn plan_centrals(net: Network, calls: &[u8]) -> (Planned, Vec<u8>) {
+    let mut settings = vec![0; 3 * (calls.len() / 4)];
+    let answer = Plain.plan(net, calls, &mut settings);
+    (answer, settings.chunks_exact(3).map(|row| row[1]).collect())
+}
+
+/// With any cycle within its limits the planner answers as by the three sizes alone, and chooses the
+/// same centrals.
+#[test]
+fn centrals_do_not_depend_on_the_cycle() {
+    let mut compared = 0;
+    for input in drawn(16).take(DRAWN) {
+        if let Input::Plan { net, calls, .. } = input {
+            let least = net.least_cycle();
+            if net.cycle() > least && net.cycle() <= Network::MOST_WAVELENGTHS {
+                let by_sizes = plan_centrals(net.with_cycle(least), &calls);
+                assert_eq!(plan_centrals(net, &calls), by_sizes);
+                compared += 1;
+            }
+        }
+    }
+    assert!(compared > DRAWN / 20, "{}", compared);
+}
+
+/// The writer of calls-only files answers with any cycle within its limits as with the larger of r and
+/// m, but for 18 where it would have written.
+#[test]
+fn another_cycle_is_refused_in_place_of_writing_calls() {
+    let mut refused = 0;
+    for input in drawn(17).take(DRAWN) {
+        if let Input::WriteCalls {
+            net,
+            note,
+            calls,
+            settings,
+            mut out,
+        } = input
+        {
+            let by_sizes = net.with_cycle(net.least_cycle());
+            let answer = Plain.write_calls(net, &note, &calls, &settings, &mut out);
+            let other = Plain.write_calls(by_sizes, &note, &calls, &settings, &mut out);
+            match answer.number {
+                1 => {}
+                18 => {
+                    assert!(net != by_sizes && answer.row == 0 && other.number == 0);
+                    refused += 1;
+                }
+                _ => assert_eq!(answer, other),
+            }
+        }
+    }
+    assert!(refused > DRAWN / 200, "{}", refused);
+}
+
+/// The writer of planned files refuses settings just as acceptance does with the cycle as given, and
+/// by 18 only what acceptance passes. It writes only with the larger of r and m.
+#[test]
+fn another_cycle_is_refused_after_the_settings() {
+    let mut refused = 0;
+    for input in drawn(18).take(DRAWN) {
+        if let Input::WritePlanned {
+            net,
+            note,
+            calls,
+            settings,
+            mut out,
+        } = input
+        {
+            let answer = Plain.write_planned(net, &note, &calls, &settings, &mut out);
+            let accepted = Plain.accept(net, &calls, &settings);
+            match answer.number {
+                0 => assert_eq!(net.cycle(), net.least_cycle()),
+                9..=13 => assert_eq!(answer, accepted),
+                18 => {
+                    assert!(net.cycle() > net.least_cycle() && answer.row == 0);
+                    assert_eq!(accepted.number, 0);
+                    refused += 1;
+                }
+                _ => {}
+            }
+        }
+    }
+    assert!(refused > DRAWN / 200, "{}", refused);
 }
 
 // Files.
@@ -69,11 +158,7 @@ fn files_read_and_written_again_are_the_same() {
         if let Input::Read { file } = input {
             let told = Plain.read(&file);
             if told.number == 0 {
-                let net = Network {
-                    n: told.n,
-                    m: told.m,
-                    r: told.r,
-                };
+                let net = Network::of_sizes(told.n, told.m, told.r);
                 let note = &file[told.note_at..told.calls_at];
                 let calls = &file[told.calls_at..told.settings_at];
                 let settings = &file[told.settings_at..file.len() - 12];

@@ -6,7 +6,8 @@
 
 /* A network with every size at its limit, a call for each of its inlets and one more, their settings, a note that is one
    byte too long, and the rooms that the header says are enough. */
-static const bolikwaru_network largest = {BOLIKWARU_MOST_CHANNELS, BOLIKWARU_MOST_CENTRALS, BOLIKWARU_MOST_MODULES};
+static const bolikwaru_network largest = {BOLIKWARU_MOST_CHANNELS, BOLIKWARU_MOST_CENTRALS, BOLIKWARU_MOST_MODULES,
+                                          BOLIKWARU_MOST_WAVELENGTHS};
 static uint8_t calls[4 * (BOLIKWARU_MOST_CALLS + 1)];
 static uint8_t settings[3 * (BOLIKWARU_MOST_CALLS + 1)];
 static uint8_t note[BOLIKWARU_MOST_NOTE + 1];
@@ -27,17 +28,19 @@ static void fill_calls(void) {
 /* The numbers that the library gives when one thing varies and all else is within its limits. */
 
 static size_t number_with_n(size_t n) {
-    const bolikwaru_network net = {n, 1, 1};
-    return bolikwaru_plan(net, NULL, 0, NULL, 0).number;
+    return bolikwaru_plan(bolikwaru_of_sizes(n, 1, 1), NULL, 0, NULL, 0).number;
 }
 
 static size_t number_with_m(size_t m) {
-    const bolikwaru_network net = {1, m, 1};
-    return bolikwaru_plan(net, NULL, 0, NULL, 0).number;
+    return bolikwaru_plan(bolikwaru_of_sizes(1, m, 1), NULL, 0, NULL, 0).number;
 }
 
 static size_t number_with_r(size_t r) {
-    const bolikwaru_network net = {1, 1, r};
+    return bolikwaru_plan(bolikwaru_of_sizes(1, 1, r), NULL, 0, NULL, 0).number;
+}
+
+static size_t number_with_w(size_t w) {
+    const bolikwaru_network net = {1, 1, 1, w};
     return bolikwaru_plan(net, NULL, 0, NULL, 0).number;
 }
 
@@ -121,6 +124,7 @@ int main(void) {
     check_size("MOST_CHANNELS", "n", BOLIKWARU_MOST_CHANNELS, number_with_n);
     check_size("MOST_CENTRALS", "m", BOLIKWARU_MOST_CENTRALS, number_with_m);
     check_size("MOST_MODULES", "r", BOLIKWARU_MOST_MODULES, number_with_r);
+    check_size("MOST_WAVELENGTHS", "w", BOLIKWARU_MOST_WAVELENGTHS, number_with_w);
     check_limit("MOST_CALLS", "K", BOLIKWARU_MOST_CALLS, BOLIKWARU_MOST_CALLS + 1, number_with_calls, 3);
     check_limit("MOST_NOTE", "a note of", BOLIKWARU_MOST_NOTE, BOLIKWARU_MOST_NOTE + 1, number_with_note, 16);
     check_limit("MOST_SETTINGS", "room of", BOLIKWARU_MOST_SETTINGS, BOLIKWARU_MOST_SETTINGS - 1,

@@ -1,4 +1,5 @@
-/* Plans a table of four calls, judges the settings, writes them to a file and reads it back. Prints each answer in decimal. */
+/* Plans a table of four calls, judges the settings, writes them to a file and reads it back; then plans it for gratings with a
+   spare port. Prints each answer in decimal. */
 #include "bolikwaru.h"
 
 #include <stdio.h>
@@ -19,7 +20,7 @@ static void print_planned(const char *name, bolikwaru_planned p) {
 }
 
 int main(void) {
-    const bolikwaru_network net = {2, 2, 3};
+    const bolikwaru_network net = bolikwaru_of_sizes(2, 2, 3);
     const uint8_t calls[] = {0, 0, 0, 0, /**/ 0, 1, 1, 0, /**/ 1, 0, 2, 0, /**/ 1, 1, 1, 1};
     const uint8_t note[] = {'c', 'a', 's', 'e', ' ', '4'};
     uint8_t settings[12] = {0};
@@ -42,14 +43,30 @@ int main(void) {
     printf("told: n %zu m %zu r %zu kind %zu count %zu\n", told.n, told.m, told.r, told.kind, told.count);
     printf("told: note at %zu, calls at %zu, settings at %zu\n", told.note_at, told.calls_at, told.settings_at);
 
+    /* Two modules, two centrals, and gratings of two ports; then gratings of three, with a spare one. Settings for one cycle are
+       none for the other, and a file has no place for a cycle that is not the larger of r and m. */
+    const uint8_t crossed[] = {0, 0, 0, 0, /**/ 1, 0, 1, 0, /**/ 1, 1, 0, 1, /**/ 0, 1, 1, 1};
+    const bolikwaru_network tight = bolikwaru_of_sizes(2, 2, 2);
+    const bolikwaru_network spare = {2, 2, 2, 3};
+    print_planned("no spare port", bolikwaru_plan(tight, crossed, sizeof crossed, settings, sizeof settings));
+    print_bytes("settings", settings, sizeof settings);
+    print_verdict("these with a spare port", bolikwaru_accept(spare, crossed, sizeof crossed, settings, sizeof settings));
+    print_planned("a spare port", bolikwaru_plan(spare, crossed, sizeof crossed, settings, sizeof settings));
+    print_bytes("settings", settings, sizeof settings);
+    print_verdict("accept", bolikwaru_accept(spare, crossed, sizeof crossed, settings, sizeof settings));
+    print_verdict("write", bolikwaru_write_planned(spare, note, sizeof note, crossed, sizeof crossed, settings,
+                                                   sizeof settings, file, sizeof file));
+
     /* With one central, row 1 is a call too many for input module 0. A refusal changes nothing. */
-    const bolikwaru_network narrow = {2, 1, 3};
+    const bolikwaru_network narrow = bolikwaru_of_sizes(2, 1, 3);
     memset(settings, 255, sizeof settings);
     print_planned("one central", bolikwaru_plan(narrow, calls, sizeof calls, settings, sizeof settings));
     print_bytes("settings", settings, sizeof settings);
 
-    /* No size is cut off on the way in: this one is 3 in its lower 32 bits. */
-    const bolikwaru_network vast = {2, 2, 4294967299u};
+    /* No size is cut off on the way in: these are 3 in their lower 32 bits. */
+    const bolikwaru_network vast = bolikwaru_of_sizes(2, 2, 4294967299u);
     print_planned("too many modules", bolikwaru_plan(vast, calls, sizeof calls, settings, sizeof settings));
+    const bolikwaru_network long_cycle = {2, 2, 3, 4294967299u};
+    print_planned("too long a cycle", bolikwaru_plan(long_cycle, calls, sizeof calls, settings, sizeof settings));
     return 0;
 }

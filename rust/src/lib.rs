@@ -6,14 +6,25 @@
 //! The library is for x86-64 Linux. It allocates nothing and keeps nothing between calls. A call
 //! takes stack, at most 7,504 bytes where it was measured (`docs/BENCHMARKS.md`).
 
-/// The three sizes of a network: n channels of each module, m central modules, r input modules and
-/// as many output modules. Sizes of any value may be given: those outside the limits are refused.
+/// A network: n channels of each module, m central modules, r input modules and as many output
+/// modules, and w, the cycle of both gratings, which is the number of wavelengths inside the shelf.
+/// Numbers of any value may be given: those outside the limits are refused.
 #[derive(Clone, Copy, PartialEq, Eq, Debug)]
 #[repr(C)]
 pub struct Network {
     pub n: usize,
     pub m: usize,
     pub r: usize,
+    pub w: usize,
+}
+
+impl Network {
+    /// The network of these sizes with the least cycle, the larger of r and m: what a plan file of
+    /// kind 1 or 2 stands for. Nothing is refused here.
+    pub const fn of_sizes(n: usize, m: usize, r: usize) -> Network {
+        let w = if r < m { m } else { r };
+        Network { n, m, r, w }
+    }
 }
 
 /// A number and a row: 0 and K, or a refusal and the row that it tells.
@@ -33,8 +44,8 @@ pub struct Planned {
     pub moved: usize,
 }
 
-/// What a plan file tells: the network, the kind (1 calls only, 2 planned), K, and where note, calls
-/// and settings begin. A refused file tells 0 for all but number and row.
+/// What a plan file tells: the network's sizes, the kind (1 calls only, 2 planned), K, and where note,
+/// calls and settings begin. A refused file tells 0 for all but number and row.
 #[derive(Clone, Copy, PartialEq, Eq, Debug)]
 #[repr(C)]
 pub struct Told {
@@ -131,14 +142,15 @@ pub fn accept(net: Network, calls: &[u8], settings: &[u8]) -> Verdict {
     }
 }
 
-/// Reads a plan file. Refusals are tried in the order 14, 1, 3, 15, 5, 6, 7, then for a planned file
-/// row by row 9 to 13.
+/// Reads a plan file; its network is `Network::of_sizes(n, m, r)` of the sizes told. Refusals are
+/// tried in the order 14, 1, 3, 15, 5, 6, 7, then for a planned file row by row 9 to 13.
 pub fn read(file: &[u8]) -> Told {
     unsafe { library::bolikwaru_read(file.as_ptr(), file.len()) }
 }
 
 /// Writes a calls-only file to the front of `out`; `settings` has no bytes. Refusals are tried in the
-/// order 1, 2, 3, 16, 4, 5, 6, 7.
+/// order 1, 2, 3, 16, 4, 5, 6, 7, then 18: a file of this kind has no place for a cycle that is not
+/// the larger of r and m.
 pub fn write_calls(
     net: Network,
     note: &[u8],
@@ -162,7 +174,7 @@ pub fn write_calls(
 }
 
 /// Writes a planned file to the front of `out`. Refusals are tried in the order 1, 2, 3, 16, 4, 5, 6,
-/// 7, then row by row 9 to 13.
+/// 7, then row by row 9 to 13, then 18 as above.
 pub fn write_planned(
     net: Network,
     note: &[u8],

@@ -5,8 +5,9 @@ use crate::inputs::{file_of, filled, settings_length, Input};
 use crate::plain::Plain;
 use crate::{Entries, Network};
 
+/// The network of three sizes alone.
 pub fn network(n: usize, m: usize, r: usize) -> Network {
-    Network { n, m, r }
+    Network::of_sizes(n, m, r)
 }
 
 /// A call of the planner with so many bytes of room.

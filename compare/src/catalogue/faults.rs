@@ -8,6 +8,9 @@ use crate::inputs::Input;
 use crate::plain::Plain;
 use crate::refusals::{applying_refusals, first_in_order, is_sought_in_rows, Asked};
 
+/// The fault of a cycle that isn't the larger of r and m.
+const OTHER_CYCLE: Fault = Fault { number: 18, way: 0 };
+
 /// Each refusal of each entry alone, in each way that it is made; but 3 never comes alone where
 /// sizes are inside their limits, so it stands among the pairs.
 pub fn single_faults() -> Vec<Input> {
@@ -66,9 +69,52 @@ fn add_pair(list: &mut Vec<Input>, asked: Asked, first: usize, second: usize) {
     }
 }
 
-/// Two of 9 to 13 in one row, for all ten pairs: each can hold together with each other. Then three
-/// to five in one row, and a whole row given twice, so that 6, 7, 12 and 13 are all there.
-pub fn faults_in_one_row() -> Vec<Input> {
+/// Each pair of refusals that a writer can give before 18, together with 18. Where both are sought in
+/// rows the pair comes twice, with either of them in the earlier row; and two of 9 to 13, or more of
+/// them, come in one row too.
+pub fn pairs_before_another_cycle() -> Vec<Input> {
+    let mut list = Vec::new();
+    for asked in [Asked::WriteCalls, Asked::WritePlanned] {
+        let before: Vec<usize> = asked
+            .order()
+            .iter()
+            .copied()
+            .take_while(|&number| number != 18)
+            .collect();
+        for (place, &first) in before.iter().enumerate() {
+            for &second in &before[place + 1..] {
+                add_pair_before_another_cycle(&mut list, asked, first, second);
+            }
+        }
+    }
+    for numbers in sets_for_one_row() {
+        let input = input_with_in_one_row(Asked::WritePlanned, &numbers, &[OTHER_CYCLE]);
+        let all = [&numbers[..], &[18]].concat();
+        list.push(checked(Asked::WritePlanned, &all, input));
+    }
+    list
+}
+
+fn add_pair_before_another_cycle(list: &mut Vec<Input>, asked: Asked, first: usize, second: usize) {
+    let one = Fault {
+        number: first,
+        way: 0,
+    };
+    let other = Fault {
+        number: second,
+        way: 0,
+    };
+    let numbers = [first, second, 18];
+    let input = input_with(asked, &[OTHER_CYCLE, other, one]);
+    list.push(checked(asked, &numbers, input));
+    if is_sought_in_rows(first) && is_sought_in_rows(second) {
+        let input = input_with(asked, &[OTHER_CYCLE, one, other]);
+        list.push(checked(asked, &numbers, input));
+    }
+}
+
+/// All ten pairs of 9 to 13, each of which can hold of one row, and one to five of them up to 13.
+fn sets_for_one_row() -> Vec<Vec<usize>> {
     let mut sets: Vec<Vec<usize>> = Vec::new();
     for first in 9..=13 {
         for second in first + 1..=13 {
@@ -76,11 +122,17 @@ pub fn faults_in_one_row() -> Vec<Input> {
         }
         sets.push((first..=13).collect());
     }
+    sets
+}
+
+/// Two of 9 to 13 in one row, for all ten pairs: each can hold together with each other. Then three
+/// to five in one row, and a whole row given twice, so that 6, 7, 12 and 13 are all there.
+pub fn faults_in_one_row() -> Vec<Input> {
     let mut list = Vec::new();
     for asked in [Asked::Accept, Asked::ReadPlanned, Asked::WritePlanned] {
-        for numbers in &sets {
-            let input = input_with_in_one_row(asked, numbers);
-            list.push(checked(asked, numbers, input));
+        for numbers in sets_for_one_row() {
+            let input = input_with_in_one_row(asked, &numbers, &[]);
+            list.push(checked(asked, &numbers, input));
         }
     }
     // The earlier row shares both modules, so that 12 and 13 point to the same one.

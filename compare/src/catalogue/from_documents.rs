@@ -64,7 +64,7 @@ pub const TABLE_ONE: [u8; 48] = [
 ];
 
 /// A table of 2-2-8 that is full, with ten calls moved.
-const EIGHT_MODULES: [u8; 64] = [
+pub const EIGHT_MODULES: [u8; 64] = [
     0, 0, 7, 0, 0, 1, 6, 0, 1, 0, 3, 0, 1, 1, 0, 0, 2, 0, 4, 0, 2, 1, 4, 1, 3, 0, 3, 1, 3, 1, 5, 0,
     4, 0, 5, 1, 4, 1, 7, 1, 5, 0, 2, 0, 5, 1, 2, 1, 6, 0, 1, 0, 6, 1, 0, 1, 7, 0, 1, 1, 7, 1, 6, 1,
 ];

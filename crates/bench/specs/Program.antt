@@ -5,6 +5,7 @@ use mathlib.Core.List.{[]}
 use Prim.Native.Nat.{ℕ, _*_}
 use lib.Dec.{eqb}
 use lib.ListN.{getD, take}
+use Rattle.shelf.specs.Network.{ofSizes}
 use Rattle.bench.specs.declared.Part.{Part}
 use Rattle.bench.specs.Bench as bench
 use Rattle.bench.specs.Bench.{planner, acceptor}
@@ -21,7 +22,7 @@ roomOf part = getD (part .head) 6 0
 unfoldable pub partOf : Part → bench.Part
 partOf part = record {
   case = getD (part .head) 0 0;
-  net = record { n = getD (part .head) 2 0; m = getD (part .head) 3 0; r = getD (part .head) 4 0 };
+  net = ofSizes (getD (part .head) 2 0) (getD (part .head) 3 0) (getD (part .head) 4 0);
   calls = take (4 * countOf part) (part .calls);
   asked = cond (isPlan part) (planner (roomOf part)) (acceptor (take (3 * countOf part) (part .bytes)));
   outcome = record {

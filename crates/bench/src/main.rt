@@ -192,13 +192,13 @@ fn front<'a>(bytes: &'a [u8], end: usize) -> &'a [u8] {
     &bytes[..end]
 }
 
-// The network of a part.
+// The network of a part, whose cycle is the larger of r and m.
 fn network_of(head: &[u8; 10]) -> Network {
-    Network {
-        n: ground::byte_at(head, SIZES_AT),
-        m: ground::byte_at(head, SIZES_AT + 1),
-        r: ground::byte_at(head, SIZES_AT + 2),
-    }
+    Network::of_sizes(
+        ground::byte_at(head, SIZES_AT),
+        ground::byte_at(head, SIZES_AT + 1),
+        ground::byte_at(head, SIZES_AT + 2),
+    )
 }
 
 // Whether the planner, given these calls and as much room as the part says, answers as it is written and leaves every byte of the buffer as it is

@@ -25,7 +25,7 @@ use Rattle.shelf.specs.Rows.{ModulesBelow}
 use Rattle.choice.specs.Rule.{at, firstOf, isFree, chain, exchange, exchanged, Step, byChain, step}
 use Rattle.choice.specs.Colouring.{Free, atModule, Fine}
 use Rattle.choice.specs.Search.{first-some, first-none, Picked, got, nothing, picked, free-iff}
-use Rattle.choice.specs.Chain.{Two, nearModules, farModules, Setting, Runs, stop, chain-is, rows-of, first-row, closed-near, closed-far, runs-distinct, search-runs, used-far, distinct-near, distinct-far}
+use Rattle.choice.specs.Chain.{Two, nearModules, farModules, Setting, Runs, stop, rows-of, first-row, closed-near, closed-far, runs-distinct, search-runs, used-far, distinct-near, distinct-far}
 use Rattle.choice.specs.Exchange.{exchange-first, exchange-second, Change, changed, kept, length-exchanged, exchanged-at, exchange-proper, place-proper}
 use Rattle.choice.specs.Count.{some-free, few}
 

@@ -168,11 +168,7 @@ fn list_told(file: &[u8], out: &mut [u8]) -> usize
     if told.number != 0 {
         return write_refusal(out, told.number, told.row);
     }
-    let net = Network {
-        n: told.n,
-        m: told.m,
-        r: told.r,
-    };
+    let net = Network::of_sizes(told.n, told.m, told.r);
     let calls_at = told.calls_at;
     let settings_at = told.settings_at;
     if told.kind == planfile::PLANNED {

@@ -24,7 +24,7 @@ use lib.ListN.{length, getD}
 use Rattle.ground.specs.Truth.{all, any}
 use Rattle.ground.specs.Bytes.{numberAt, part}
 use Rattle.shelf.specs.declared.Network.{Network}
-use Rattle.shelf.specs.Network.{withinLimits}
+use Rattle.shelf.specs.Network.{withinLimits, ofSizes}
 use Rattle.shelf.specs.Rows.{rowCount}
 use Rattle.shelf.specs.Light.{Lawful}
 use Rattle.calls.specs.declared.Verdict.{Verdict}
@@ -44,8 +44,9 @@ trailerAt file = length file - trailerLength
 unfoldable pub trailerIn : List ℕ → List ℕ
 trailerIn file = part file (trailerAt file) (length file)
 
+-- "Old files .. take W as the larger of r and m."
 unfoldable pub toldNet : List ℕ → Network
-toldNet t = record { n = getD t 0 0; m = getD t 1 0; r = getD t 2 0 }
+toldNet t = ofSizes (getD t 0 0) (getD t 1 0) (getD t 2 0)
 
 unfoldable pub toldKind : List ℕ → ℕ
 toldKind t = getD t 3 0
@@ -158,7 +159,7 @@ unfoldable pub settingsIn : List ℕ → Told → List ℕ
 settingsIn file told = part file (told .«settings_at») (trailerAt file)
 
 unfoldable pub netOf : Told → Network
-netOf told = record { n = told .n; m = told .m; r = told .r }
+netOf told = ofSizes (told .n) (told .m) (told .r)
 
 -- the rows of a file with this layout
 unfoldable pub layoutChecks : List ℕ → Layout → Verdict

@@ -17,6 +17,7 @@ use lib.ListN.{length}
 use lib.Seq.{take-length}
 use Rattle.ground.specs.Bytes.{AllBytes, part}
 use Rattle.ground.specs.BytesLaws.{high-number, low-number, part-bytes, length-part, take-part, listed, listed-all}
+use Rattle.shelf.specs.Network.{ofSizes}
 use Rattle.shelf.specs.Rows.{rowCount}
 use Rattle.shelf.specs.Light.{Lawful}
 use Rattle.calls.specs.declared.Verdict.{Verdict}
@@ -48,7 +49,7 @@ module _ (file : List ℕ) (h : Stated file) where
   twelve = omega (arith, length-part file (trailerAt file) (length file) (le-refl (length file)), h .long)
 
   trailer-told : AllBytes file → trailerIn file ≡ trailerOf (toldNet (trailerIn file)) (toldKind (trailerIn file)) (toldCount (trailerIn file))
-  unfolding trailerIn listed trailerOf toldNet toldKind toldCount toldSettingsBack toldCallsBack toldMark
+  unfolding trailerIn listed trailerOf toldNet ofSizes toldKind toldCount toldSettingsBack toldCallsBack toldMark
   trailer-told b =
       let t = part file (trailerAt file) (length file) in
       let small = part-bytes file b (trailerAt file) (length file) in
@@ -120,7 +121,7 @@ module _ (file : List ℕ) where
 
   -- a file that is not refused is the file of its parts, in order, and if planned lawful
   whole-file : AllBytes file → readerVerdict file .number ≡ 0 → WholeFile file (wholeTold (layoutOf file))
-  unfolding wholeTold noteIn callsIn settingsIn netOf layoutChecks layoutOf
+  unfolding wholeTold noteIn callsIn settingsIn netOf toldNet ofSizes layoutChecks layoutOf
   whole-file b z = record {
     is-file = is-file-of file stated b;
     tells-K = (sym K, sym K);

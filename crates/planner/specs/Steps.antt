@@ -12,7 +12,7 @@ use mathlib.Core.List.{List}
 use Prim.Native.Nat.{ℕ, _+_, _*_, _≤_, _<_}
 use lib.ListN.{length, getD, set}
 use Rattle.shelf.specs.declared.Network.{Network}
-use Rattle.shelf.specs.Network.{mostModules}
+use Rattle.shelf.specs.Network.{mostWavelengths}
 use Rattle.shelf.specs.Rows.{rowCount, α, β, moduleOf}
 use Rattle.shelf.specs.Order.{order}
 use Rattle.calls.specs.declared.Verdict.{Verdict}
@@ -44,7 +44,7 @@ pub record AllPlaced (net : Network) (calls rows rows′ : List ℕ) (moved : �
   pub moved-is : moved ≡ plannedMoved net calls
 
 pub record Passable (W : ℕ) (rows : List ℕ) (i : ℕ) : Type 0 where
-  pub small : W ≤ mostModules
+  pub small : W ≤ mostWavelengths
   pub input : getD rows (3 * i) 0 < W
   pub central : getD rows (3 * i + 1) 0 < W
   pub output : getD rows (3 * i + 2) 0 < W

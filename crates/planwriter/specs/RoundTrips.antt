@@ -12,7 +12,8 @@ use lib.Seq.{take-append-seam}
 use Rattle.ground.specs.Bytes.{highByte, lowByte, numberAt, part, front}
 use Rattle.ground.specs.BytesLaws.{number-of-bytes, part-middle}
 use Rattle.shelf.specs.declared.Network.{Network}
-use Rattle.shelf.specs.Network.{mostCalls}
+use Rattle.shelf.specs.Network.{hasLeastCycle, mostCalls}
+use Rattle.shelf.specs.NetworkLaws.{sizes-least-cycle, least-cycle-sizes}
 use Rattle.shelf.specs.Rows.{rowCount}
 use Rattle.calls.specs.declared.Verdict.{Verdict}
 use Rattle.planfile.specs.declared.Told.{Told}
@@ -36,10 +37,10 @@ record Tells (t : List ℕ) (net : Network) (kind K : ℕ) : Type 0 where
   of-calls : toldCallsBack t ≡ callsDistance kind K
   of-mark : toldMark t ≡ mark
 
-trailer-tells : (net : Network) (kind K : ℕ) → K ≤ mostCalls → Tells (trailerOf net kind K) net kind K
+trailer-tells : (net : Network) (kind K : ℕ) → T (hasLeastCycle net) → K ≤ mostCalls → Tells (trailerOf net kind K) net kind K
 unfolding trailerOf toldNet toldKind toldCount toldSettingsBack toldCallsBack toldMark numberAt highByte lowByte mark callsDistance mostCalls
-trailer-tells net kind K h = record {
-  of-net = refl;
+trailer-tells net kind K least h = record {
+  of-net = sym (least-cycle-sizes net least);
   of-kind = refl;
   of-K = number-of-bytes K (omega arith);
   of-settings = number-of-bytes (settingsDistance kind K) (omega (arith, settings-most kind K));
@@ -47,7 +48,7 @@ trailer-tells net kind K h = record {
   of-mark = refl;
 }
 
-module _ (net : Network) (kind : ℕ) (note calls settings : List ℕ) (h : Measured kind net calls settings) where
+module _ (net : Network) (kind : ℕ) (note calls settings : List ℕ) (h : Measured kind net calls settings) (least : T (hasLeastCycle net)) where
   abbrev file : List ℕ
   file = fileOf net kind note calls settings
 
@@ -62,7 +63,7 @@ module _ (net : Network) (kind : ℕ) (note calls settings : List ℕ) (h : Meas
       refl (starts ∙ simp length-append) (length-append (note ++ calls ++ settings) (trailerOf net kind (rowCount calls)))
 
   tells : Tells (trailerIn file) net kind (rowCount calls)
-  tells = rw trailer-back (trailer-tells net kind (rowCount calls) (h .few))
+  tells = rw trailer-back (trailer-tells net kind (rowCount calls) least (h .few))
 
   -- its distances are the lengths of what stands before it
   calls-distance : toldCallsBack (trailerIn file) ≡ length calls + length settings
@@ -116,10 +117,10 @@ module _ (net : Network) (kind : ℕ) (note calls settings : List ℕ) (h : Meas
   -- so a reader tells just this of it, where the rows pass
   given-back : T (aKind kind) → length note ≤ mostNote → tableChecks net kind calls settings .number ≡ 0
       → (told : Told) → Reads file told → GivenBack net kind note calls settings file told
-  unfolding noteIn callsIn settingsIn wholeTold layoutWith
+  unfolding noteIn callsIn settingsIn netOf wholeTold layoutWith
   given-back a l z told r =
       let e = r .answer ∙ read-whole file (reader-passes file .1 (stated a l, rw rows-back z)) ∙ ap wholeTold layout-back in
-      record { tells = e; note-back = rw e note-part; calls-back = rw e calls-part; settings-back = rw (e, starts) settings-part }
+      record { tells = e; net-back = rw e (sym (least-cycle-sizes net least)); note-back = rw e note-part; calls-back = rw e calls-part; settings-back = rw (e, starts) settings-part }
 
 -- ---- the two round trips
 
@@ -135,18 +136,20 @@ module _ (kind : ℕ) (net : Network) (note calls settings before after : List �
   write-then-read a z told r =
       let file-is = file-written z in
       let p = written-passes kind net note calls settings before after v w z in
-      rw file-is (given-back net kind note calls settings (p .0) a (p .1) (p .3) told (rw file-is at r))
+      rw file-is (given-back net kind note calls settings (p .sizes) (p .least) a (p .short-note) (p .rows) told (rw file-is at r))
 
 -- "reading then writing, given room, gives the same bytes"
 pub read-then-write : (file before after : List ℕ) (told : Told) (v : Verdict) → Reads file told → told .number ≡ 0
     → Writes (told .kind) (netOf told) (noteIn file told) (callsIn file told) (settingsIn file told) before after v
     → length file ≤ length before
     → (v .number ≡ 0) × (v .row ≡ told .row) × (take (length file) after ≡ file)
+unfolding netOf
 read-then-write file before after told v r z w room =
     let whole = r .whole z in
     let is-file = whole .is-file in
-    let sized = whole-measured file told whole in
-    let rows = table-lawful _ _ _ _ sized .1 (whole .in-order, whole .lawful) in
-    let parts = parts-pass _ _ _ _ _ (length before) .1 (sized, whole .short-note, rw is-file at room, rows) in
+    let sizes = whole-measured file told whole in
+    let rows = table-lawful _ _ _ _ sizes .1 (whole .in-order, whole .lawful) in
+    let least = sizes-least-cycle (told .n) (told .m) (told .r) in
+    let parts = parts-pass _ _ _ _ _ (length before) .1 (record { sizes = sizes; short-note = whole .short-note; enough = rw is-file at room; rows = rows; least = least }) in
     let number = ap (λ (u : Verdict). u .number) (w .answer) ∙ writer-passes _ _ _ _ _ (length before) .1 parts in
     (number, w .tells-K number ∙ sym (whole .tells-K .0), ap (λ (k : ℕ). take k after) (ap length is-file) ∙ file-written _ _ _ _ _ _ _ _ w number ∙ sym is-file)

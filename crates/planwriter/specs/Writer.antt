@@ -1,21 +1,22 @@
 -- What the writers answer and what they leave in the buffer, as functions of their input: one definition for both kinds.
 --   longNote note, shortBuffer size room == 16 and 4, for a file of `size` bytes and a buffer of `room` bytes
---   partChecks kind net note calls settings room == 1, 2, 3, 16, 4, then the checks of the rows
+--   untoldCycle net       == 18
+--   partChecks kind net note calls settings room == 1, 2, 3, 16, 4, then the checks of the rows, then 18
 --   writerVerdict ..      == the answer
 --   writeBuffer ..        == the buffer afterwards
 --   HasRoom kind ..       == what has to hold for the file to be put into the buffer
 --   Writes kind ..        == what the entries guarantee
 --   layoutWith net kind note calls settings == the layout of the file of these parts
---   GivenBack ..          == what a reader tells is this layout, and the parts there are these
+--   GivenBack ..          == what a reader tells is this layout, its network is this, and the parts there are these
 use mathlib.Core.Path.{_≡_}
-use mathlib.Core.Bool.{cond}
+use mathlib.Core.Bool.{not, cond}
 use mathlib.Core.List.{List, [], _∷_}
 use Prim.Native.Nat.{ℕ, _+_, _≤_}
 use lib.Dec.{T, eqb, ltb}
 use lib.ListN.{length}
 use Rattle.ground.specs.Bytes.{front}
 use Rattle.shelf.specs.declared.Network.{Network}
-use Rattle.shelf.specs.Network.{withinLimits, mostCalls}
+use Rattle.shelf.specs.Network.{withinLimits, hasLeastCycle, mostCalls}
 use Rattle.shelf.specs.Rows.{rowCount}
 use Rattle.shelf.specs.Light.{Lawful}
 use Rattle.calls.specs.declared.Verdict.{Verdict}
@@ -25,7 +26,7 @@ use Rattle.planfile.specs.declared.Layout.{Layout}
 use Rattle.planfile.specs.declared.Told.{Told}
 use Rattle.planfile.specs.File.{planned, mostNote, settingsPerCall, fileOf}
 use Rattle.planfile.specs.Checks.{tableChecks}
-use Rattle.planfile.specs.Reader.{wholeTold, noteIn, callsIn, settingsIn}
+use Rattle.planfile.specs.Reader.{wholeTold, noteIn, callsIn, settingsIn, netOf}
 
 -- 16: "note to be written above 255 bytes"
 unfoldable pub longNote : List ℕ → Verdict
@@ -35,13 +36,19 @@ longNote note = refusedIf 16 0 (ltb mostNote (length note))
 unfoldable pub shortBuffer : ℕ → ℕ → Verdict
 shortBuffer size room = refusedIf 4 0 (ltb room size)
 
--- "File writer: 1, 2, 3, 16, 4, then as acceptance from 5." "the writer of one is given settings of no bytes, else 2"
+-- 18: "when a file of kind 1 or 2 is asked for and W isn't the larger of r and m". The two writers are asked for just these kinds.
+unfoldable pub untoldCycle : Network → Verdict
+untoldCycle net = refusedIf 18 0 (not (hasLeastCycle net))
+
+-- "File writer: 1, 2, 3, 16, 4, then as acceptance from 5."; 18 comes "after a writer's other checks". Of calls-only files "the writer of one is given settings of
+-- no bytes, else 2".
 unfoldable pub partChecks : ℕ → Network → List ℕ → List ℕ → List ℕ → ℕ → List Verdict
 partChecks kind net note calls settings room =
     sizeChecks net (length calls) (length settings) (settingsPerCall kind)
     ∷ longNote note
     ∷ shortBuffer (length (fileOf net kind note calls settings)) room
     ∷ tableChecks net kind calls settings
+    ∷ untoldCycle net
     ∷ []
 
 unfoldable pub writerVerdict : ℕ → Network → List ℕ → List ℕ → List ℕ → ℕ → Verdict
@@ -70,8 +77,10 @@ pub record Writes (kind : ℕ) (net : Network) (note calls settings before after
   -- what is written is a table in order, and if planned its settings are lawful
   pub in-order : v .number ≡ 0 → InOrder net calls
   pub lawful : v .number ≡ 0 → kind ≡ planned → Lawful net calls settings
+  -- what is written tells no cycle, and W is the one that a reader takes
+  pub least-cycle : v .number ≡ 0 → T (hasLeastCycle net)
 
--- ---- what writing then reading gives back: n, m, r, kind, K and where note, calls and settings begin
+-- ---- what writing then reading gives back: n, m, r (and with them W), kind, K and where note, calls and settings begin
 
 unfoldable pub layoutWith : Network → ℕ → List ℕ → List ℕ → List ℕ → Layout
 layoutWith net kind note calls settings = record {
@@ -85,6 +94,7 @@ layoutWith net kind note calls settings = record {
 
 pub record GivenBack (net : Network) (kind : ℕ) (note calls settings file : List ℕ) (told : Told) : Type 0 where
   pub tells : told ≡ wholeTold (layoutWith net kind note calls settings)
+  pub net-back : netOf told ≡ net
   pub note-back : noteIn file told ≡ note
   pub calls-back : callsIn file told ≡ calls
   pub settings-back : settingsIn file told ≡ settings

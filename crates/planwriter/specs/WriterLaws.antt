@@ -1,5 +1,5 @@
 -- What it means that a writer's checks pass, what it then writes, and that two answers coincide.
---   parts-pass           == what it means that none of a writer's checks refuses, and writer-passes that its number says so
+--   PartsPass ..         == what parts are that none of a writer's checks refuses: parts-pass, and writer-passes that its number says so
 --   room-test            == 4 goes by the sum of the lengths
 --   has-room, refused-writes, done-writes == the guarantee, where a check refused and where all passed
 --   written-passes, longest-written == what was written passed the checks, and is no longer than the longest file
@@ -8,12 +8,14 @@ use mathlib.Core.Path.{_≡_, refl, sym, _∙_}
 use mathlib.Core.Logic.{_↔_}
 use mathlib.Core.List.{List}
 use Prim.Native.Nat.{ℕ, _+_, _≤_}
-use lib.Dec.{ltb}
+use lib.Dec.{T, ltb}
 use lib.ListN.{length}
 use borrow.Author.Tests.{ne-eqb}
+use Rattle.ground.specs.TruthLaws.{holds-is}
 use Rattle.ground.specs.Numbers.{at-most-is}
 use Rattle.ground.specs.Bytes.{front}
 use Rattle.shelf.specs.declared.Network.{Network}
+use Rattle.shelf.specs.Network.{hasLeastCycle}
 use Rattle.shelf.specs.Rows.{rowCount}
 use Rattle.calls.specs.declared.Verdict.{Verdict}
 use Rattle.calls.specs.Verdict.{success, inTurn, AllPass}
@@ -22,25 +24,36 @@ use Rattle.planfile.specs.File.{trailerLength, mostNote, fileOf, longestFile}
 use Rattle.planfile.specs.Checks.{tableChecks}
 use Rattle.planfile.specs.ChecksLaws.{Measured, measured, table-lawful, longest-file}
 use Rattle.planfile.specs.FileLaws.{length-file}
-use Rattle.planwriter.specs.Writer.{longNote, shortBuffer, partChecks, writerVerdict, writeBuffer, HasRoom, Writes}
+use Rattle.planwriter.specs.Writer.{longNote, shortBuffer, untoldCycle, partChecks, writerVerdict, writeBuffer, HasRoom, Writes}
+
+pub record PartsPass (kind : ℕ) (net : Network) (note calls settings : List ℕ) (room : ℕ) : Type 0 where
+  pub sizes : Measured kind net calls settings
+  pub short-note : length note ≤ mostNote
+  pub enough : length (fileOf net kind note calls settings) ≤ room
+  pub rows : tableChecks net kind calls settings .number ≡ 0
+  pub least : T (hasLeastCycle net)
 
 module _ (kind : ℕ) (net : Network) (note calls settings : List ℕ) where
   module _ (room : ℕ) where
-    pub parts-pass : AllPass (partChecks kind net note calls settings room)
-        ↔ (Measured kind net calls settings × (length note ≤ mostNote) × (length (fileOf net kind note calls settings) ≤ room) × (tableChecks net kind calls settings .number ≡ 0))
-    unfolding partChecks longNote shortBuffer
+    pub parts-pass : AllPass (partChecks kind net note calls settings room) ↔ PartsPass kind net note calls settings room
+    unfolding partChecks longNote shortBuffer untoldCycle
     parts-pass = (
-      λ (sizes, (sixteen, (four, (table, _)))). (
-        measured kind net calls settings .0 sizes,
-        at-most-is (length note) mostNote .0 (refused-zero 15 0 _ .0 sixteen),
-        at-most-is (length (fileOf net kind note calls settings)) room .0 (refused-zero 3 0 _ .0 four),
-        table,
-      ),
+      λ (sizes, (sixteen, (four, (table, (eighteen, _))))).
+          record {
+            sizes = measured kind net calls settings .0 sizes;
+            short-note = at-most-is (length note) mostNote .0 (refused-zero 15 0 _ .0 sixteen);
+            enough = at-most-is (length (fileOf net kind note calls settings)) room .0 (refused-zero 3 0 _ .0 four);
+            rows = table;
+            least = holds-is (hasLeastCycle net) .0 (refused-zero 17 0 _ .0 eighteen);
+          },
       λ h. (
-        measured kind net calls settings .1 (h .0),
+        measured kind net calls settings .1 (h .sizes),
         (
-          refused-zero 15 0 _ .1 (at-most-is (length note) mostNote .1 (h .1)),
-          (refused-zero 3 0 _ .1 (at-most-is (length (fileOf net kind note calls settings)) room .1 (h .2)), (h .3, tt)),
+          refused-zero 15 0 _ .1 (at-most-is (length note) mostNote .1 (h .short-note)),
+          (
+            refused-zero 3 0 _ .1 (at-most-is (length (fileOf net kind note calls settings)) room .1 (h .enough)),
+            (h .rows, (refused-zero 17 0 _ .1 (holds-is (hasLeastCycle net) .1 (h .least)), tt)),
+          ),
         ),
       ),
     )
@@ -66,20 +79,21 @@ module _ (kind : ℕ) (net : Network) (note calls settings : List ℕ) where
           tells-K = λ z. absurd (n z);
           in-order = λ z. absurd (n z);
           lawful = λ z. absurd (n z);
+          least-cycle = λ z. absurd (n z);
         }
 
     module _ (z : u .number ≡ 0) where
-      passed-parts : Measured kind net calls settings × (length note ≤ mostNote) × (length (fileOf net kind note calls settings) ≤ length before) × (tableChecks net kind calls settings .number ≡ 0)
+      passed-parts : PartsPass kind net note calls settings (length before)
       passed-parts = parts-pass (length before) .0 (turn-passes _ .0 (rw e at z))
 
       pub has-room : HasRoom kind net note calls settings (length before)
-      has-room = let p = passed-parts in record { limits = p .0 .limits; few = p .0 .few; enough = p .2 }
+      has-room = let p = passed-parts in record { limits = p .sizes .limits; few = p .sizes .few; enough = p .enough }
 
       pub done-writes : (after : List ℕ) → after ≡ front before (fileOf net kind note calls settings) → Writes kind net note calls settings before after (success (rowCount calls))
       unfolding writeBuffer writerVerdict success
       done-writes after f =
           let answer = answer-passed _ (rowCount calls) e z in
-          let table = table-lawful kind net calls settings (passed-parts .0) .0 (passed-parts .3) in
+          let table = table-lawful kind net calls settings (passed-parts .sizes) .0 (passed-parts .rows) in
           record {
             answer = answer;
             buffer = rw (← answer) f;
@@ -88,15 +102,16 @@ module _ (kind : ℕ) (net : Network) (note calls settings : List ℕ) where
             tells-K = λ y. refl;
             in-order = λ y. table .0;
             lawful = λ y. table .1;
+            least-cycle = λ y. passed-parts .least;
           }
 
 -- what was written passed the checks, and is no longer than the longest file
 module _ (kind : ℕ) (net : Network) (note calls settings before after : List ℕ) (v : Verdict) (w : Writes kind net note calls settings before after v) (z : v .number ≡ 0) where
-  pub written-passes : Measured kind net calls settings × (length note ≤ mostNote) × (length (fileOf net kind note calls settings) ≤ length before) × (tableChecks net kind calls settings .number ≡ 0)
+  pub written-passes : PartsPass kind net note calls settings (length before)
   written-passes = parts-pass kind net note calls settings (length before) .0 (writer-passes kind net note calls settings (length before) .0 (rw (w .answer) at z))
 
   pub longest-written : length (fileOf net kind note calls settings) ≤ longestFile
-  longest-written = longest-file kind net calls settings (written-passes .0) note (written-passes .1)
+  longest-written = longest-file kind net calls settings (written-passes .sizes) note (written-passes .short-note)
 
 -- two answers that satisfy the guarantee are the same, and so are the buffers that they leave
 pub one-answer : (kind : ℕ) (net : Network) (note calls settings before after after' : List ℕ) (v w : Verdict)

@@ -12,8 +12,9 @@ ghost use Rattle.planwriter.specs.Writer.{partChecks, HasRoom, Writes};
 use calls::Verdict;
 use shelf::Network;
 
-// Writes a calls-only file at the front of `out`: 0 and K, or the first refusal in the order 1, 2, 3, 16, 4, 5, 6, 7. Settings
-// have no bytes, else 2. A refusal changes no byte, and bytes beyond the file keep their values. Nothing is asked of the input.
+// Writes a calls-only file at the front of `out`: 0 and K, or the first refusal in the order 1, 2, 3, 16, 4, 5, 6, 7, 18. Settings
+// have no bytes, else 2. The file tells no cycle: a network whose cycle is not the larger of r and m is refused 18. A refusal changes
+// no byte, and bytes beyond the file keep their values. Nothing is asked of the input.
 pub fn write_calls(
     net: Network,
     note: &[u8],
@@ -26,7 +27,7 @@ pub fn write_calls(
     write(net, planfile::CALLS_ONLY, note, calls, settings, out)
 }
 
-// Writes a planned file in the same way, with 3 bytes of settings for each call: after 7 it tries row by row 9 to 13.
+// Writes a planned file in the same way, with 3 bytes of settings for each call: after 7 it tries row by row 9 to 13, then 18.
 pub fn write_planned(
     net: Network,
     note: &[u8],
@@ -99,7 +100,14 @@ fn check_parts(
     if room < size {
         return Verdict { number: 4, row: 0 };
     }
-    planfile::check_table(net, kind, calls, settings)
+    let rows = planfile::check_table(net, kind, calls, settings);
+    if rows.number != 0 {
+        return rows;
+    }
+    if !net.has_least_cycle() {
+        return Verdict { number: 18, row: 0 };
+    }
+    Verdict { number: 0, row: 0 }
 }
 
 // The trailer of a file with `count` calls.

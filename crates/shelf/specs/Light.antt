@@ -1,4 +1,5 @@
--- How light travels through the shelf, and which settings are lawful. Nothing here mentions the acceptance of settings.
+-- How light travels through the shelf, and which settings are lawful, with W for the scope's Λ. Nothing here mentions the acceptance of
+-- settings.
 --   Row, rowAt, rowOf  == what the light of one row goes by: α and β of its call, x, γ and y of its settings
 --   portBelow top port == the port, or none where nothing stands there and the light is lost
 --   first net ρ        == the port p at which the row's light leaves the first grating, or none where it is lost there

@@ -1,7 +1,7 @@
 // Stored inputs, answered by the compiled entries: what is printed is compared with the answers of an independent
-// implementation. An input has a head of 33 bytes: the entry by one byte, n, m and r by eight bytes each, then the lengths of note,
-// calls, settings and room by two bytes each, all with the high byte first. The bytes of these four follow. A file to be read or
-// listed stands in the place of the calls. For each input a line is printed: the numbers that the entry answers, then each byte of
+// implementation. An input has a head of 41 bytes: the entry by one byte, n, m, r and the cycle by eight bytes each, then the lengths
+// of note, calls, settings and room by two bytes each, all with the high byte first. The bytes of these four follow. A file to be read
+// or listed stands in the place of the calls. For each input a line is printed: the numbers that the entry answers, then each byte of
 // the room as the entry left it. Of a listing the numbers are the length of the text and how many bytes beyond it were changed in
 // the buffer, and the bytes are those of the text.
 ghost use Prim.Native.Nat.{_+_, _≤_};
@@ -22,22 +22,24 @@ const WRITE_CALLS: u8 = 3;
 
 const LIST: u8 = 5;
 
-// Where in a head n, m, r and the lengths of note, calls, settings and room stand, and the bytes of the whole head.
+// Where in a head n, m, r, the cycle and the lengths of note, calls, settings and room stand, and the bytes of the whole head.
 const N_AT: usize = 1;
 
 const M_AT: usize = 9;
 
 const R_AT: usize = 17;
 
-const NOTE_AT: usize = 25;
+const W_AT: usize = 25;
 
-const CALLS_AT: usize = 27;
+const NOTE_AT: usize = 33;
 
-const SETTINGS_AT: usize = 29;
+const CALLS_AT: usize = 35;
 
-const ROOM_AT: usize = 31;
+const SETTINGS_AT: usize = 37;
 
-const HEAD: usize = 33;
+const ROOM_AT: usize = 39;
+
+const HEAD: usize = 41;
 
 // How many numbers two bytes can tell.
 const PAIRS: usize = 65536;
@@ -88,6 +90,7 @@ fn answer_next(parts: &mut [u8], room: &mut [u8]) -> bool {
         n: size_at(&head, N_AT),
         m: size_at(&head, M_AT),
         r: size_at(&head, R_AT),
+        w: size_at(&head, W_AT),
     };
     let whole = &parts[..];
     answer(

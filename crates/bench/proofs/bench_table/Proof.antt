@@ -2,11 +2,12 @@
 use Rattle.bench.proofs.bench_table.Statement.{statement}
 use Rattle.bench.proofs.bench_table.Tie as tie
 use mathlib.Core.Path.{refl}
-use Rattle.bench.specs.Bench.{call, setting, sizes, blank, plans, accepts, callsOf3, settingsOf3, benchTable}
+use Rattle.shelf.specs.Network.{ofSizes}
+use Rattle.bench.specs.Bench.{call, setting, blank, plans, accepts, callsOf3, settingsOf3, benchTable}
 use Rattle.bench.specs.Program.{isPlan, countOf, roomOf, partOf}
 
 returns : tie.Need-returns
-unfolding call setting sizes blank plans accepts callsOf3 settingsOf3 benchTable isPlan countOf roomOf partOf
+unfolding ofSizes call setting blank plans accepts callsOf3 settingsOf3 benchTable isPlan countOf roomOf partOf
 returns c = refl
 
 pub bench-table-spec : {M : Type 1} → statement M

@@ -21,10 +21,10 @@ abbrev To-read : tie.Else1 → tie.After-read
 To-read c = c .before .before
 
 abbrev To-planned : tie.Then2 → tie.Else1
-To-planned c = c .before .before
+To-planned c = c .before .before .before
 
 abbrev To-calls : tie.Else2 → tie.Else1
-To-calls c = c .before .before
+To-calls c = c .before .before .before
 
 holds : (c : tie.Else1) → Held (now (To-start (To-read c) .args .file)) (To-read c .read .result)
 holds c = held _ _ (To-read c .read .ensures .answer) (c .if1 .left)
@@ -43,6 +43,9 @@ returns c =
     let refused = c .before .before in
     let read = refused .before .before .before .before in
     adds-same (refused .write-refusal .ensures) (told-refused _ _ (read .read .ensures .answer) (refused .before .before .if1 .taken))
+
+of-sizes-requires : tie.Need-of-sizes-requires
+of-sizes-requires c κs = search needs
 
 mul-end : tie.Need-mul-end
 unfolding mostCalls
@@ -94,7 +97,7 @@ returns-2 c =
     let left = To-planned then in
     let read = To-read left in
     let text = told-planned _ _ (read .read .ensures .answer) (left .if1 .left) (then .if2 .taken) in
-    adds-same (listed .list-accepted .ensures) (rw (holds left .settings-end (then .if2 .taken)) text)
+    adds-same (listed .list-accepted .ensures) (rw (then .before .before .of-sizes .ensures, holds left .settings-end (then .if2 .taken)) text)
 
 sub-plan-and-list : tie.Need-sub-plan-and-list
 sub-plan-and-list c = omega (arith, holds (To-calls c) .calls-end)
@@ -122,7 +125,7 @@ returns-3 c =
     let other = listed .before .before .before in
     let left = To-calls other in
     let read = To-read left in
-    adds-same (listed .plan-and-list .ensures) (told-calls _ _ (read .read .ensures .answer) (left .if1 .left) (other .if2 .left))
+    adds-same (listed .plan-and-list .ensures) (rw (other .before .before .of-sizes .ensures) (told-calls _ _ (read .read .ensures .answer) (left .if1 .left) (other .if2 .left)))
 
 pub list-told-spec : {M : Type 1} → statement M
 list-told-spec =
@@ -132,6 +135,7 @@ list-told-spec =
     write-refusal-requires
     same-length
     returns
+    of-sizes-requires
     mul-end
     add-end
     sub-list-accepted

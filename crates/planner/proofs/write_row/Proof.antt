@@ -7,13 +7,13 @@ use lib.ListN.{set, length-set}
 use borrow.Author.Needs.{needs}
 use Rattle.grating.specs.Grating.{wavelengthBetween}
 use Rattle.grating.specs.Laws.{between-below}
-use Rattle.shelf.specs.Network.{mostModules}
+use Rattle.shelf.specs.Network.{mostWavelengths}
 use Rattle.planner.proofs.write_row.Statement.{statement}
 use Rattle.planner.proofs.write_row.Tie as tie
 
 -- a wavelength of the shelf is a byte
-byte : (W a b w : ℕ) → W ≤ mostModules → a < W → w ≡ wavelengthBetween W a b → w < 256
-unfolding mostModules
+byte : (W a b w : ℕ) → W ≤ mostWavelengths → a < W → w ≡ wavelengthBetween W a b → w < 256
+unfolding mostWavelengths
 byte W a b w small l e = omega (arith, between-below W (omega arith) a b)
 
 -- the three bytes are read

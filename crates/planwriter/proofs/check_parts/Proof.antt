@@ -1,20 +1,21 @@
 -- `planwriter::check_parts` meets its contract: the first check that refuses is the answer. The file's length fits, since calls and
 -- settings have passed 1, 2 and 3.
 use mathlib.Core.Path.{_≡_, sym, ap, _∙_}
-use mathlib.Core.List.{List}
-use Prim.Native.Nat.{ℕ}
+use mathlib.Core.List.{List, [], _∷_}
 use native.Mathlib.Omega.{arith}
 use lib.ListN.{length}
 use borrow.Author.Needs.{needs}
-use borrow.Author.Tests.{lt-ltb, le-ltb}
+use borrow.Author.Tests.{not-true, not-false, lt-ltb, le-ltb}
 use denote.Ref.{now}
 use Rattle.shelf.specs.Network.{mostCalls}
 use Rattle.calls.specs.declared.Verdict.{Verdict}
-use Rattle.calls.specs.VerdictLaws.{turn-stops, turn-goes-on, turn-last, test-stops, test-goes-on}
+use Rattle.calls.specs.Verdict.{passed, inTurn}
+use Rattle.calls.specs.VerdictLaws.{turn-stops, turn-goes-on, test-stops, test-goes-on, test-passes}
 use Rattle.calls.specs.Table.{sizeChecks}
-use Rattle.planfile.specs.File.{trailerLength, mostNote, settingsPerCall}
+use Rattle.planfile.specs.File.{trailerLength, mostNote, settingsPerCall, fileOf}
+use Rattle.planfile.specs.Checks.{tableChecks}
 use Rattle.planfile.specs.ChecksLaws.{Measured, measured, most-rows}
-use Rattle.planwriter.specs.Writer.{longNote, shortBuffer, partChecks}
+use Rattle.planwriter.specs.Writer.{longNote, shortBuffer, untoldCycle, partChecks}
 use Rattle.planwriter.specs.WriterLaws.{room-test}
 use Rattle.planwriter.proofs.check_parts.Statement.{statement}
 use Rattle.planwriter.proofs.check_parts.Tie as tie
@@ -25,25 +26,52 @@ settings-per-call-requires c κs = search needs
 check-sizes-requires : tie.Need-check-sizes-requires
 check-sizes-requires c κs = search needs
 
--- the parts, where the checks stand, and what 1, 2 and 3 say of them
-abbrev Args : tie.After-check-sizes → tie.Start
-Args c = c .before .before .before .before .before
+-- The stations: past 1, 2 and 3, past 16, past 4, past the checks of the rows; and the checks from there on.
+abbrev To-start : tie.After-check-sizes → tie.Start
+To-start c = c .before .before .before .before .before
 
-abbrev Calls : tie.After-check-sizes → List ℕ
-Calls c = now (Args c .args .calls)
+abbrev Past-3 : tie.Else1 → tie.Start
+Past-3 c = To-start (c .before .before)
 
-abbrev Settings : tie.After-check-sizes → List ℕ
-Settings c = now (Args c .args .settings)
+abbrev Past-16 : tie.Else2 → tie.Start
+Past-16 c = Past-3 (c .before)
 
-sizes : (c : tie.After-check-sizes) → c .check-sizes .result ≡ sizeChecks (Args c .args .net) (length (Calls c)) (length (Settings c)) (settingsPerCall (Args c .args .kind))
+abbrev Past-4 : tie.Else3 → tie.Start
+Past-4 c = Past-16 (c .before)
+
+abbrev Past-rows : tie.Else4 → tie.Start
+Past-rows c = Past-4 (c .before .before .before)
+
+abbrev From-18 : tie.Start → List Verdict
+From-18 s = untoldCycle (s .args .net) ∷ []
+
+abbrev From-5 : tie.Start → List Verdict
+From-5 s = tableChecks (s .args .net) (s .args .kind) (now (s .args .calls)) (now (s .args .settings)) ∷ From-18 s
+
+abbrev From-4 : tie.Start → List Verdict
+From-4 s = shortBuffer (length (fileOf (s .args .net) (s .args .kind) (now (s .args .note)) (now (s .args .calls)) (now (s .args .settings)))) (s .args .room) ∷ From-5 s
+
+abbrev From-16 : tie.Start → List Verdict
+From-16 s = longNote (now (s .args .note)) ∷ From-4 s
+
+abbrev From-1 : tie.Start → List Verdict
+From-1 s = partChecks (s .args .kind) (s .args .net) (now (s .args .note)) (now (s .args .calls)) (now (s .args .settings)) (s .args .room)
+
+-- what 1, 2 and 3 say of the parts
+sizes : (c : tie.After-check-sizes)
+    → c .check-sizes .result ≡ sizeChecks (To-start c .args .net) (length (now (To-start c .args .calls))) (length (now (To-start c .args .settings))) (settingsPerCall (To-start c .args .kind))
 sizes c = rw (← c .before .settings-per-call .ensures .0) (c .check-sizes .ensures)
 
-known : (c : tie.Else1) → Measured (Args (c .before .before) .args .kind) (Args (c .before .before) .args .net) (Calls (c .before .before)) (Settings (c .before .before))
+known : (c : tie.Else1) → Measured (Past-3 c .args .kind) (Past-3 c .args .net) (now (Past-3 c .args .calls)) (now (Past-3 c .args .settings))
 known c = measured _ _ _ _ .0 (ap (λ (v : Verdict). v .number) (sym (sizes (c .before .before))) ∙ c .if1 .left)
 
 returns : tie.Need-returns
 unfolding partChecks
 returns c = turn-stops _ (sizes (c .before .before)) (c .if1 .taken)
+
+past-3 : (c : tie.Else1) (v : Verdict) → v ≡ inTurn (From-16 (Past-3 c)) → v ≡ inTurn (From-1 (Past-3 c))
+unfolding partChecks
+past-3 c v = turn-goes-on _ _ (sizes (c .before .before)) (c .if1 .left)
 
 add-size : tie.Need-add-size
 add-size c = search needs
@@ -57,24 +85,40 @@ unfolding mostCalls
 add-size-3 c = omega (arith, most-rows _ _ _ _ (known c))
 
 returns-2 : tie.Need-returns-2
-unfolding partChecks longNote mostNote
-returns-2 c = turn-goes-on _ _ (sizes (c .before .before .before)) (c .before .if1 .left) (test-stops 15 0 _ (lt-ltb _ _ (c .if2 .taken)))
+unfolding longNote mostNote
+returns-2 c = past-3 (c .before) _ (test-stops 15 0 _ (lt-ltb _ _ (c .if2 .taken)))
+
+past-16 : (c : tie.Else2) (v : Verdict) → v ≡ inTurn (From-4 (Past-16 c)) → v ≡ inTurn (From-1 (Past-16 c))
+unfolding longNote mostNote
+past-16 c v f = past-3 (c .before) v (test-goes-on 16 0 _ _ (le-ltb _ _ (c .if2 .left)) f)
 
 returns-3 : tie.Need-returns-3
-unfolding partChecks longNote shortBuffer mostNote trailerLength
-returns-3 c =
-    turn-goes-on _ _ (sizes (c .before .before .before .before)) (c .before .before .if1 .left)
-    (test-goes-on 16 0 _ _ (le-ltb _ _ (c .before .if2 .left)) (test-stops 3 0 _ (room-test _ _ _ _ _ _ ∙ lt-ltb _ _ (c .if3 .taken))))
+unfolding shortBuffer trailerLength
+returns-3 c = past-16 (c .before) _ (test-stops 3 0 _ (room-test _ _ _ _ _ _ ∙ lt-ltb _ _ (c .if3 .taken)))
+
+past-4 : (c : tie.Else3) (v : Verdict) → v ≡ inTurn (From-5 (Past-4 c)) → v ≡ inTurn (From-1 (Past-4 c))
+unfolding shortBuffer trailerLength
+past-4 c v f = past-16 (c .before) v (test-goes-on 4 0 _ _ (room-test _ _ _ _ _ _ ∙ le-ltb _ _ (c .if3 .left)) f)
 
 check-table-requires : tie.Need-check-table-requires
 check-table-requires c κs = let k = known (c .before .before) in (k .limits, k .settings-length)
 
 returns-4 : tie.Need-returns-4
-unfolding partChecks longNote shortBuffer mostNote trailerLength
-returns-4 c =
-    turn-goes-on _ _ (sizes (c .before .before .before .before .before)) (c .before .before .before .if1 .left)
-    (test-goes-on 16 0 _ _ (le-ltb _ _ (c .before .before .if2 .left))
-    (test-goes-on 4 0 _ _ (room-test _ _ _ _ _ _ ∙ le-ltb _ _ (c .before .if3 .left)) (turn-last (c .check-table .ensures))))
+returns-4 c = let rows = c .before .before in past-4 (rows .before) _ (turn-stops _ (rows .check-table .ensures) (c .if4 .taken))
+
+past-rows : (c : tie.Else4) (v : Verdict) → v ≡ inTurn (From-18 (Past-rows c)) → v ≡ inTurn (From-1 (Past-rows c))
+past-rows c v f = let rows = c .before .before in past-4 (rows .before) v (turn-goes-on _ _ (rows .check-table .ensures) (c .if4 .left) f)
+
+has-least-cycle-requires : tie.Need-has-least-cycle-requires
+has-least-cycle-requires c κs = search needs
+
+returns-5 : tie.Need-returns-5
+unfolding untoldCycle
+returns-5 c = past-rows (c .before .before) _ (test-stops 17 0 _ (rw (sym (c .before .has-least-cycle .ensures) ∙ not-true _ (c .if5 .taken))))
+
+returns-6 : tie.Need-returns-6
+unfolding untoldCycle passed
+returns-6 c = past-rows (c .before .before) _ (test-passes 18 0 (rw (sym (c .before .has-least-cycle .ensures) ∙ not-false _ (c .if5 .left))))
 
 pub check-parts-spec : {M : Type 1} → statement M
 check-parts-spec =
@@ -89,4 +133,7 @@ check-parts-spec =
     returns-2
     returns-3
     check-table-requires
-    returns-4)
+    returns-4
+    has-least-cycle-requires
+    returns-5
+    returns-6)

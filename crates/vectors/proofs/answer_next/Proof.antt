@@ -101,6 +101,12 @@ slice-aggregate-size-at-3 c = search needs
 size-at-requires-3 : tie.Need-size-at-requires-3
 size-at-requires-3 c κs = search needs
 
+slice-aggregate-size-at-4 : tie.Need-slice-aggregate-size-at-4
+slice-aggregate-size-at-4 c = search needs
+
+size-at-requires-4 : tie.Need-size-at-requires-4
+size-at-requires-4 c κs = search needs
+
 array-read-answer : tie.Need-array-read-answer
 array-read-answer c = search needs
 
@@ -173,6 +179,8 @@ answer-next-spec =
     size-at-requires-2
     slice-aggregate-size-at-3
     size-at-requires-3
+    slice-aggregate-size-at-4
+    size-at-requires-4
     array-read-answer
     slice-aggregate-answer
     sub-answer
