@@ -1,26 +1,29 @@
-/* Bolikwaru for C: plans settings for a wavelength cross-connect shelf, judges settings, reads and writes plan files.
+/* Bolikwaru for C: plans settings for a wavelength cross-connect shelf, judges settings, adds and drops single calls, reads and
+   writes plan files.
    Link target/staticlib/libexported.a (x86-64 Linux). Every answer is proved for all numbers and all bytes; the promises
    stand in crates/exported/src/lib.rt, and this header is kept by hand beside them.
 
    A buffer is handed over as a pointer and a length in bytes; where the length is 0 any pointer will do, also null. A buffer
    that is written must overlap no other. Nothing else is asked of the input. Nothing is kept between calls or allocated.
-   Stack, as measured (docs/BENCHMARKS.md): the planner takes 4,504 bytes and some 24 more for each call on its longest chain,
-   7,504 on the worst table found; acceptance takes 4,232, the reader 5,496, the writers 5,624.
+   Stack, as measured (docs/BENCHMARKS.md): the planner takes 4,632 bytes and some 24 more for each call on its longest chain,
+   7,648 on the worst table found; acceptance takes 4,232, an add 8,696, a drop 4,280, the reader 5,496, the writers 5,624.
 
    A call row has 4 bytes: input module, its channel, output module, its channel. The first two are its inlet, the last two
    its outlet. A settings row has 3: wavelength to the central module, central module, wavelength from it. Settings row i
    belongs to call row i. K is the number of calls.
 
    number  when                                                                            row
-        0  success                                                                         K
+        0  success                                                                         K, or that of the table written
         1  n, m or r outside its limits, or w below r, below m or above 64                 0
-        2  calls not a multiple of 4 bytes, or settings not as long as they must be        0
+        2  calls not a multiple of 4 bytes, settings not as long as they must be, or a
+           call to be added not 4 bytes                                                    0
         3  more than 1,024 calls                                                           0
         4  output buffer too short                                                         0
         5  a module or channel that the shelf does not have                                first such
         6  inlet used by an earlier row                                                    first such
         7  outlet used by an earlier row                                                   first such
         8  with this row a module has more calls than there are centrals                   first such
+           5 to 8 of a call to be added                                                    its row, K
         9  a wavelength or central that the shelf does not have                            that row
        10  the light does not reach the central it names                                   that row
        11  the light does not reach its output module                                      that row
@@ -29,6 +32,7 @@
        14  no trailer: under 12 bytes, wrong mark, or kind not 1 or 2                      0
        15  distances not as stated, more than the file holds, or a note above 255 bytes    0
        16  note to be written above 255 bytes                                              0
+       17  the table has no such row to be dropped                                         0
        18  w is not the larger of r and m, and a file to be written has no place for it    0
 
    Every number but 0 is a refusal, and a refusal changes no byte of any buffer. */
@@ -51,9 +55,12 @@ extern "C" {
 #define BOLIKWARU_MOST_CALLS 1024
 #define BOLIKWARU_MOST_NOTE 255
 
-/* The bytes of the most settings, and of the longest file. */
+/* The bytes of the longest table of calls, of the most settings, of the longest file, and those that an add asks at most for the
+   moved rows. */
+#define BOLIKWARU_LONGEST_TABLE 4096
 #define BOLIKWARU_MOST_SETTINGS 3072
 #define BOLIKWARU_LONGEST_FILE 7435
+#define BOLIKWARU_MOST_MOVED_ROWS 2046
 
 /* The kinds of file. */
 #define BOLIKWARU_CALLS_ONLY 1
@@ -104,6 +111,31 @@ bolikwaru_planned bolikwaru_plan(bolikwaru_network net,
 bolikwaru_verdict bolikwaru_accept(bolikwaru_network net,
                                    const uint8_t *calls, size_t calls_length,
                                    const uint8_t *settings, size_t settings_length);
+
+/* Adds one call to a running shelf: the table with the call in its last row, K, at the front of `calls_after`, and settings for
+   it at the front of `settings_after`. From the settings given, whoever made them, the call is placed by one step of the choice
+   rule; nothing is planned anew. `moved_rows` tells the rows that had to change their central, in the order in which the chain
+   met them, by two bytes each, the high byte first; every other row keeps its settings. Success is 0 with K + 1 and the number
+   of rows moved, and writes 4 (K + 1), 3 (K + 1) and 2 moved bytes; the bytes beyond are kept. Refusals are tried in the order
+   of bolikwaru_accept for what is given; then 2 if `call` does not have 4 bytes, 3 if there are 1,024 calls already, 4 if there
+   is no room for K + 1 calls, K + 1 settings and K moved rows; then 5, 6, 7 and 8 of the new call, with the row K. */
+bolikwaru_planned bolikwaru_add(bolikwaru_network net,
+                                const uint8_t *calls, size_t calls_length,
+                                const uint8_t *settings, size_t settings_length,
+                                const uint8_t *call, size_t call_length,
+                                uint8_t *calls_after, size_t calls_after_length,
+                                uint8_t *settings_after, size_t settings_after_length,
+                                uint8_t *moved_rows, size_t moved_rows_length);
+
+/* Drops one call: the table and its settings without that row at the front of `calls_after` and `settings_after`; later rows close
+   up, and no call is moved. Success is 0 with K - 1, and writes 4 (K - 1) and 3 (K - 1) bytes; the bytes beyond are kept.
+   Refusals are tried in the order of bolikwaru_accept for what is given; then 17 if the row is not below K, then 4. */
+bolikwaru_verdict bolikwaru_drop(bolikwaru_network net,
+                                 const uint8_t *calls, size_t calls_length,
+                                 const uint8_t *settings, size_t settings_length,
+                                 size_t row,
+                                 uint8_t *calls_after, size_t calls_after_length,
+                                 uint8_t *settings_after, size_t settings_after_length);
 
 /* Reads a plan file. Refusals are tried in the order 14, 1, 3, 15, 5, 6, 7, then for a planned file row by row 9 to 13. No
    buffer is written. */

@@ -11,22 +11,36 @@ mod files;
 mod from_documents;
 mod limits;
 mod listed;
+mod step_faults;
+mod steps;
 mod worked;
 
-use crate::inputs::{drawn, drawn_of_sizes, Input};
+use crate::inputs::{drawn_of_sizes, drawn_of_tables, drawn_steps, Input};
 use crate::stored_form::{stored_input, Stored};
 
-/// All stored inputs: those of the entries, then the files to be listed.
+/// All stored inputs: those of the entries for whole tables, then the files to be listed, then those
+/// that add a call or drop one.
 pub fn stored_inputs() -> Vec<Stored> {
-    let of_entries = entry_inputs().into_iter().map(Stored::Input);
+    let of_tables = table_inputs().into_iter().map(Stored::Input);
     let listed = listed::listed_files()
         .into_iter()
         .map(|file| Stored::List { file });
-    of_entries.chain(listed).collect()
+    let of_steps = step_inputs().into_iter().map(Stored::Input);
+    of_tables.chain(listed).chain(of_steps).collect()
 }
 
-/// The stored inputs of the five entries.
-fn entry_inputs() -> Vec<Input> {
+/// The stored inputs of the entries for single calls.
+fn step_inputs() -> Vec<Input> {
+    let groups = [
+        steps::steps(),
+        step_faults::step_faults(),
+        short_of(drawn_steps(154), 60),
+    ];
+    without_repeats(groups.concat())
+}
+
+/// The stored inputs of the entries for whole tables.
+fn table_inputs() -> Vec<Input> {
     let groups = [
         from_documents::bench_table(),
         from_documents::document_004_tables(),
@@ -44,7 +58,7 @@ fn entry_inputs() -> Vec<Input> {
         cycles::own_cycles(),
         by_light::by_light_at_spare_ports(),
         faults::pairs_before_another_cycle(),
-        short_of(drawn(151), 60),
+        short_of(drawn_of_tables(151), 60),
     ];
     without_repeats(groups.concat())
 }
@@ -60,11 +74,11 @@ fn without_repeats(inputs: Vec<Input>) -> Vec<Input> {
     kept
 }
 
-/// So many of these inputs, those of no more than 608 bytes with their heads.
+/// So many of these inputs, those of no more than 620 bytes with their heads.
 fn short_of(inputs: impl Iterator<Item = Input>, count: usize) -> Vec<Input> {
     let is_short = |input: &Input| {
         let stored = stored_input(&Stored::Input(input.clone()));
-        stored.map_or(false, |bytes| bytes.len() <= 608)
+        stored.map_or(false, |bytes| bytes.len() <= 620)
     };
     inputs.filter(is_short).take(count).collect()
 }
@@ -73,8 +87,9 @@ fn short_of(inputs: impl Iterator<Item = Input>, count: usize) -> Vec<Input> {
 mod tests {
     use super::*;
     use crate::comparison::answer_of;
+    use crate::inputs::drawn;
     use crate::plain::Plain;
-    use crate::refusals::{applying_refusals, first_in_order, Asked};
+    use crate::refusals::owed_refusal;
     use crate::stored_form::stored_files;
 
     #[test]
@@ -82,23 +97,17 @@ mod tests {
         let inputs = stored_inputs();
         let (questions, answers) = stored_files(&inputs);
         assert_eq!(answers.lines().count(), inputs.len());
-        assert!(questions.len() < 1_200_000, "{}", questions.len());
-        assert!(answers.len() < 700_000, "{}", answers.len());
+        assert!(questions.len() < 1_600_000, "{}", questions.len());
+        assert!(answers.len() < 950_000, "{}", answers.len());
     }
 
     /// The refusals that apply decide every stored answer, and those of drawn inputs.
     #[test]
     fn refusals_that_apply_decide_the_answers() {
-        for input in entry_inputs().into_iter().chain(drawn(7).take(3000)) {
-            let asked = match &input {
-                Input::Plan { .. } => Asked::Plan,
-                Input::Accept { .. } => Asked::Accept,
-                Input::Read { .. } => Asked::ReadPlanned,
-                Input::WriteCalls { .. } => Asked::WriteCalls,
-                Input::WritePlanned { .. } => Asked::WritePlanned,
-            };
+        let stored = table_inputs().into_iter().chain(step_inputs());
+        for input in stored.chain(drawn(7).take(3000)) {
             let (answer, _) = answer_of(&Plain, &input);
-            match first_in_order(asked.order(), &applying_refusals(&input)) {
+            match owed_refusal(&input) {
                 Some(owed) => {
                     assert_eq!((answer.number(), answer.row()), (owed.number, owed.row));
                 }

@@ -1,10 +1,12 @@
 //! Comparison of two implementations on one input, and on every small input.
 
+mod steps;
+
 use crate::inputs::{file_of, filled, setting_of, settings_length, Entry, Input};
 use crate::ladders::calls_of_pairs;
 use crate::{
     Entries, Network, Planned, Told, Verdict, CALL_BYTES, HIGHEST_NUMBER, KIND_CALLS, KIND_PLANNED,
-    SETTING_BYTES, TRAILER_BYTES,
+    MOVED_BYTES, SETTING_BYTES, TRAILER_BYTES,
 };
 
 /// What an entry answered.
@@ -67,6 +69,15 @@ pub struct Difference {
     pub input: Box<Input>,
 }
 
+impl Difference {
+    pub fn new(what: String, input: &Input) -> Difference {
+        Difference {
+            what,
+            input: Box::new(input.clone()),
+        }
+    }
+}
+
 /// How often each entry gave each number.
 #[derive(Clone, Default, Debug)]
 pub struct Coverage {
@@ -84,6 +95,14 @@ impl Coverage {
 
     pub fn total(&self) -> usize {
         self.counts.iter().flatten().sum()
+    }
+
+    /// Adds all that another has counted.
+    pub fn add_all(&mut self, other: &Coverage) {
+        let counts = self.counts.iter_mut().flatten();
+        for (count, more) in counts.zip(other.counts.iter().flatten()) {
+            *count += more;
+        }
     }
 }
 
@@ -142,19 +161,19 @@ fn guard_byte(place: usize) -> u8 {
 
 // One implementation on one input.
 
-/// What came of an input: the answer, the room as it was left, and the first broken sentence of the
-/// document.
+/// What came of an input: the answer, the rooms as they were left, one after the other, and the first
+/// broken sentence of the document.
 struct Outcome {
     answer: Answer,
-    room: Vec<u8>,
+    rooms: Vec<u8>,
     broken: Option<&'static str>,
 }
 
-/// The answer of an implementation, and the bytes of its room afterwards. Acceptance and the reader
-/// have no room.
+/// The answer of an implementation, and the bytes of its rooms afterwards, one room after the other.
+/// Acceptance and the reader have no room.
 pub fn answer_of(entries: &dyn Entries, input: &Input) -> (Answer, Vec<u8>) {
     let outcome = run(entries, input);
-    (outcome.answer, outcome.room)
+    (outcome.answer, outcome.rooms)
 }
 
 fn run(entries: &dyn Entries, input: &Input) -> Outcome {
@@ -168,7 +187,7 @@ fn run(entries: &dyn Entries, input: &Input) -> Outcome {
             let mut room = Lent::new(settings);
             let answer = entries.plan(*net, lent[0].bytes(), room.bytes_mut());
             let written = settings_length(calls);
-            outcome(Answer::Planned(answer), &lent, &room, written)
+            outcome(Answer::Planned(answer), &lent, &[(room, written)])
         }
         Input::Accept {
             net,
@@ -177,12 +196,12 @@ fn run(entries: &dyn Entries, input: &Input) -> Outcome {
         } => {
             let lent = [Lent::new(calls), Lent::new(settings)];
             let answer = entries.accept(*net, lent[0].bytes(), lent[1].bytes());
-            outcome(Answer::Verdict(answer), &lent, &Lent::new(&[]), 0)
+            outcome(Answer::Verdict(answer), &lent, &[])
         }
         Input::Read { file } => {
             let lent = [Lent::new(file)];
             let answer = entries.read(lent[0].bytes());
-            outcome(Answer::Told(answer), &lent, &Lent::new(&[]), 0)
+            outcome(Answer::Told(answer), &lent, &[])
         }
         Input::WriteCalls {
             net,
@@ -208,7 +227,81 @@ fn run(entries: &dyn Entries, input: &Input) -> Outcome {
                 entries.write_planned(*net, parts[0], parts[1], parts[2], out)
             })
         }
+        Input::Add {
+            net,
+            calls,
+            settings,
+            call,
+            calls_after,
+            settings_after,
+            moved_rows,
+        } => {
+            let rooms = [&calls_after[..], settings_after, moved_rows];
+            run_add(entries, *net, [calls, settings, call], rooms)
+        }
+        Input::Drop {
+            net,
+            calls,
+            settings,
+            row,
+            calls_after,
+            settings_after,
+        } => {
+            let rooms = [&calls_after[..], settings_after];
+            run_drop(entries, *net, [calls, settings], *row, rooms)
+        }
     }
+}
+
+/// Lends an add what is given and its three rooms.
+fn run_add(entries: &dyn Entries, net: Network, given: [&[u8]; 3], rooms: [&[u8]; 3]) -> Outcome {
+    let lent = given.map(Lent::new);
+    let [calls, settings, call] = &lent;
+    let [mut calls_after, mut settings_after, mut moved_rows] = rooms.map(Lent::new);
+    let answer = entries.add(
+        net,
+        calls.bytes(),
+        settings.bytes(),
+        call.bytes(),
+        [
+            calls_after.bytes_mut(),
+            settings_after.bytes_mut(),
+            moved_rows.bytes_mut(),
+        ],
+    );
+    let rows = given[0].len() / CALL_BYTES + 1;
+    let rooms = [
+        (calls_after, CALL_BYTES * rows),
+        (settings_after, SETTING_BYTES * rows),
+        (moved_rows, answer.moved.saturating_mul(MOVED_BYTES)),
+    ];
+    outcome(Answer::Planned(answer), &lent, &rooms)
+}
+
+/// Lends a drop what is given and its two rooms.
+fn run_drop(
+    entries: &dyn Entries,
+    net: Network,
+    given: [&[u8]; 2],
+    row: usize,
+    rooms: [&[u8]; 2],
+) -> Outcome {
+    let lent = given.map(Lent::new);
+    let [calls, settings] = &lent;
+    let [mut calls_after, mut settings_after] = rooms.map(Lent::new);
+    let answer = entries.drop(
+        net,
+        calls.bytes(),
+        settings.bytes(),
+        row,
+        [calls_after.bytes_mut(), settings_after.bytes_mut()],
+    );
+    let rows = (given[0].len() / CALL_BYTES).saturating_sub(1);
+    let rooms = [
+        (calls_after, CALL_BYTES * rows),
+        (settings_after, SETTING_BYTES * rows),
+    ];
+    outcome(Answer::Verdict(answer), &lent, &rooms)
 }
 
 /// Lends a writer its note, calls and settings, and its room.
@@ -225,24 +318,25 @@ fn run_writer(
         [note.bytes(), calls.bytes(), settings.bytes()],
         room.bytes_mut(),
     );
-    outcome(Answer::Verdict(answer), &lent, &room, written)
+    outcome(Answer::Verdict(answer), &lent, &[(room, written)])
 }
 
-fn outcome(answer: Answer, lent: &[Lent], room: &Lent, written: usize) -> Outcome {
+/// A room, and how many bytes of it success writes.
+type Room = (Lent, usize);
+
+fn outcome(answer: Answer, lent: &[Lent], rooms: &[Room]) -> Outcome {
     Outcome {
         answer,
-        room: room.bytes().to_vec(),
-        broken: broken_sentence(&answer, lent, room, written),
+        rooms: rooms
+            .iter()
+            .flat_map(|(room, _)| room.bytes().to_vec())
+            .collect(),
+        broken: broken_sentence(&answer, lent, rooms),
     }
 }
 
-/// The first sentence that a call broke, whatever was asked. `written` is what success writes.
-fn broken_sentence(
-    answer: &Answer,
-    lent: &[Lent],
-    room: &Lent,
-    written: usize,
-) -> Option<&'static str> {
+/// The first sentence that a call broke, whatever was asked.
+fn broken_sentence(answer: &Answer, lent: &[Lent], rooms: &[Room]) -> Option<&'static str> {
     if !lent.iter().all(Lent::is_unchanged) {
         return Some("a buffer that is only read keeps its bytes and its guard bytes");
     }
@@ -250,7 +344,7 @@ fn broken_sentence(
         return Some("a number is 0 or that of a refusal");
     }
     if answer.number() != 0 {
-        if !room.is_unchanged() {
+        if !rooms.iter().all(|(room, _)| room.is_unchanged()) {
             return Some("a refusal writes nothing anywhere");
         }
         if answer.numbers()[2..].iter().any(|&number| number != 0) {
@@ -258,11 +352,13 @@ fn broken_sentence(
         }
         return None;
     }
-    if room.bytes().len() < written {
-        return Some("success needs room for all that is written");
-    }
-    if !room.is_unchanged_from(written) {
-        return Some("bytes beyond those written keep their values");
+    for (room, written) in rooms {
+        if room.bytes().len() < *written {
+            return Some("success needs room for all that is written");
+        }
+        if !room.is_unchanged_from(*written) {
+            return Some("bytes beyond those written keep their values");
+        }
     }
     None
 }
@@ -276,14 +372,23 @@ pub fn compare_all(
     right: &dyn Entries,
     input: &Input,
 ) -> Result<Seen, Difference> {
+    let (answer, _) = answer_of_both(left, right, input)?;
+    Ok(Seen {
+        entry: input.entry(),
+        number: answer.number(),
+    })
+}
+
+/// The answer that both implementations give, and the bytes of the rooms as both leave them, one room
+/// after the other.
+pub fn answer_of_both(
+    left: &dyn Entries,
+    right: &dyn Entries,
+    input: &Input,
+) -> Result<(Answer, Vec<u8>), Difference> {
     let at_left = run(left, input);
     let at_right = run(right, input);
-    let differ = |what: String| {
-        Err(Difference {
-            what,
-            input: Box::new(input.clone()),
-        })
-    };
+    let differ = |what: String| Err(Difference::new(what, input));
     if let Some(sentence) = at_left.broken {
         return differ(format!("left breaks: {}", sentence));
     }
@@ -296,16 +401,13 @@ pub fn compare_all(
             at_left.answer, at_right.answer
         ));
     }
-    if let Some(place) = first_difference(&at_left.room, &at_right.room) {
+    if let Some(place) = first_difference(&at_left.rooms, &at_right.rooms) {
         return differ(format!(
-            "byte {} of the room: left {}, right {}",
-            place, at_left.room[place], at_right.room[place]
+            "byte {} of the rooms: left {}, right {}",
+            place, at_left.rooms[place], at_right.rooms[place]
         ));
     }
-    Ok(Seen {
-        entry: input.entry(),
-        number: at_left.answer.number(),
-    })
+    Ok((at_left.answer, at_left.rooms))
 }
 
 fn first_difference(left: &[u8], right: &[u8]) -> Option<usize> {
@@ -329,8 +431,8 @@ impl Both<'_> {
     }
 }
 
-/// Compares both implementations on every small input: some hundred thousand for each of planner
-/// and acceptance.
+/// Compares both implementations on every small input: some hundred thousand for each of planner,
+/// acceptance, adds and drops.
 pub fn compare_exhaustively(
     left: &dyn Entries,
     right: &dyn Entries,
@@ -350,6 +452,7 @@ pub fn compare_exhaustively(
     read_damaged_files(&mut both)?;
     try_rooms(&mut both)?;
     try_cycles(&mut both)?;
+    steps::compare_steps(&mut both)?;
     Ok(both.coverage)
 }
 
@@ -607,9 +710,9 @@ fn try_rooms(both: &mut Both) -> Result<(), Difference> {
     Ok(())
 }
 
-/// Four networks with every cycle up to 130, and with those that would be one of these if they were cut
-/// to 8, 16 or 32 bits: the last call that there can be, with the settings that it needs on the last
-/// central by this cycle and by the larger of r and m, planned, judged and written.
+/// Four networks with every cycle up to 130, and with those that would be one of these if they were
+/// cut to 8, 16 or 32 bits: the last call that there can be, with the settings that it needs on the
+/// last central by this cycle and by the larger of r and m, planned, judged and written.
 fn try_cycles(both: &mut Both) -> Result<(), Difference> {
     let sizes = [(1, 1, 1), (2, 2, 3), (2, 3, 2), (16, 32, 64)];
     for (n, m, r) in sizes {

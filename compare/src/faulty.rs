@@ -4,6 +4,13 @@
 //! A fault that is sought in rows is made by a few rows at modules of their own, so the faults of
 //! one input do not touch each other, and the order of these groups of rows is the order in which
 //! the faults stand in the table.
+//!
+//! Inputs for single calls, with faults of what is given and of the step itself, are made in
+//! `faulty/steps.rs`.
+
+mod steps;
+
+pub use steps::{step_with, step_with_in_one_row};
 
 use crate::inputs::{file_of, filled, setting_of, Input};
 use crate::refusals::Asked;

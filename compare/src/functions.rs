@@ -1,6 +1,6 @@
-//! The library's functions for C behind pointers, and what does nothing in their place and in that of
-//! an implementation in Rust. Something and nothing are called by the very same code, so that measured
-//! side by side they tell what a function uses by itself.
+//! The library's functions for C behind pointers, and what does nothing in their place and in that
+//! of an implementation in Rust. Something and nothing are called by the very same code, so that
+//! measured side by side they tell what a function uses by itself.
 
 use crate::{Entries, Network, Planned, Told, Verdict};
 
@@ -19,7 +19,35 @@ type Write = unsafe extern "C" fn(
     usize,
 ) -> Verdict;
 
-/// Five functions of the forms that include/bolikwaru.h has. They ask no more of their input than is
+type Add = unsafe extern "C" fn(
+    Network,
+    *const u8,
+    usize,
+    *const u8,
+    usize,
+    *const u8,
+    usize,
+    *mut u8,
+    usize,
+    *mut u8,
+    usize,
+    *mut u8,
+    usize,
+) -> Planned;
+type Drop = unsafe extern "C" fn(
+    Network,
+    *const u8,
+    usize,
+    *const u8,
+    usize,
+    usize,
+    *mut u8,
+    usize,
+    *mut u8,
+    usize,
+) -> Verdict;
+
+/// Seven functions of the forms that include/bolikwaru.h has. They ask no more of their input than is
 /// said there, so that any slices may be handed over.
 pub struct Functions {
     plan: Plan,
@@ -27,6 +55,8 @@ pub struct Functions {
     read: Read,
     write_calls: Write,
     write_planned: Write,
+    add: Add,
+    drop: Drop,
 }
 
 /// The library's functions.
@@ -36,6 +66,8 @@ pub const LIBRARY: Functions = Functions {
     read: bolikwaru_read,
     write_calls: bolikwaru_write_calls,
     write_planned: bolikwaru_write_planned,
+    add: bolikwaru_add,
+    drop: bolikwaru_drop,
 };
 
 /// Functions that do nothing.
@@ -45,6 +77,8 @@ pub const EMPTY: Functions = Functions {
     read: read_nothing,
     write_calls: write_nothing,
     write_planned: write_nothing,
+    add: add_nothing,
+    drop: drop_nothing,
 };
 
 extern "C" {
@@ -85,6 +119,33 @@ extern "C" {
         out: *mut u8,
         out_length: usize,
     ) -> Verdict;
+    fn bolikwaru_add(
+        net: Network,
+        calls: *const u8,
+        calls_length: usize,
+        settings: *const u8,
+        settings_length: usize,
+        call: *const u8,
+        call_length: usize,
+        calls_after: *mut u8,
+        calls_after_length: usize,
+        settings_after: *mut u8,
+        settings_after_length: usize,
+        moved_rows: *mut u8,
+        moved_rows_length: usize,
+    ) -> Planned;
+    fn bolikwaru_drop(
+        net: Network,
+        calls: *const u8,
+        calls_length: usize,
+        settings: *const u8,
+        settings_length: usize,
+        row: usize,
+        calls_after: *mut u8,
+        calls_after_length: usize,
+        settings_after: *mut u8,
+        settings_after_length: usize,
+    ) -> Verdict;
 }
 
 extern "C" fn plan_nothing(_: Network, _: *const u8, _: usize, _: *mut u8, _: usize) -> Planned {
@@ -112,6 +173,39 @@ extern "C" fn write_nothing(
     _: *const u8,
     _: usize,
     _: *const u8,
+    _: usize,
+    _: *mut u8,
+    _: usize,
+) -> Verdict {
+    Verdict::default()
+}
+
+extern "C" fn add_nothing(
+    _: Network,
+    _: *const u8,
+    _: usize,
+    _: *const u8,
+    _: usize,
+    _: *const u8,
+    _: usize,
+    _: *mut u8,
+    _: usize,
+    _: *mut u8,
+    _: usize,
+    _: *mut u8,
+    _: usize,
+) -> Planned {
+    Planned::default()
+}
+
+extern "C" fn drop_nothing(
+    _: Network,
+    _: *const u8,
+    _: usize,
+    _: *const u8,
+    _: usize,
+    _: usize,
+    _: *mut u8,
     _: usize,
     _: *mut u8,
     _: usize,
@@ -169,6 +263,59 @@ impl Entries for Functions {
     ) -> Verdict {
         write(self.write_planned, net, [note, calls, settings], out)
     }
+
+    fn add(
+        &self,
+        net: Network,
+        calls: &[u8],
+        settings: &[u8],
+        call: &[u8],
+        rooms: [&mut [u8]; 3],
+    ) -> Planned {
+        let [calls_after, settings_after, moved_rows] = rooms;
+        unsafe {
+            (self.add)(
+                net,
+                calls.as_ptr(),
+                calls.len(),
+                settings.as_ptr(),
+                settings.len(),
+                call.as_ptr(),
+                call.len(),
+                calls_after.as_mut_ptr(),
+                calls_after.len(),
+                settings_after.as_mut_ptr(),
+                settings_after.len(),
+                moved_rows.as_mut_ptr(),
+                moved_rows.len(),
+            )
+        }
+    }
+
+    fn drop(
+        &self,
+        net: Network,
+        calls: &[u8],
+        settings: &[u8],
+        row: usize,
+        rooms: [&mut [u8]; 2],
+    ) -> Verdict {
+        let [calls_after, settings_after] = rooms;
+        unsafe {
+            (self.drop)(
+                net,
+                calls.as_ptr(),
+                calls.len(),
+                settings.as_ptr(),
+                settings.len(),
+                row,
+                calls_after.as_mut_ptr(),
+                calls_after.len(),
+                settings_after.as_mut_ptr(),
+                settings_after.len(),
+            )
+        }
+    }
 }
 
 fn write(function: Write, net: Network, parts: [&[u8]; 3], out: &mut [u8]) -> Verdict {
@@ -209,6 +356,14 @@ impl Entries for Nothing {
     }
 
     fn write_planned(&self, _: Network, _: &[u8], _: &[u8], _: &[u8], _: &mut [u8]) -> Verdict {
+        Verdict::default()
+    }
+
+    fn add(&self, _: Network, _: &[u8], _: &[u8], _: &[u8], _: [&mut [u8]; 3]) -> Planned {
+        Planned::default()
+    }
+
+    fn drop(&self, _: Network, _: &[u8], _: &[u8], _: usize, _: [&mut [u8]; 2]) -> Verdict {
         Verdict::default()
     }
 }

@@ -1,5 +1,11 @@
-//! Inputs of the five entries: what they are, the parts that they are made of, and drawn ones, the
+//! Inputs of the seven entries: what they are, the parts that they are made of, and drawn ones, the
 //! same for the same seed. Of `plain.rs` only the planner is used, for drawn settings that are right.
+//! Inputs for single calls are drawn in `inputs/steps.rs`, on shelves drawn in `inputs/running.rs`.
+
+mod running;
+mod steps;
+
+pub use running::{draw_running, draw_thread, Running};
 
 use crate::ladders::{calls_of_pairs, path, rounds_and_ladder};
 use crate::plain::Plain;
@@ -8,7 +14,7 @@ use crate::{
     TRAILER_BYTES,
 };
 
-/// The entries, in the order of their numbers in stored inputs.
+/// The entries. Their numbers in stored inputs are those of `stored_form.rs`.
 #[derive(Clone, Copy, PartialEq, Eq, Debug)]
 pub enum Entry {
     Plan,
@@ -16,15 +22,19 @@ pub enum Entry {
     Read,
     WriteCalls,
     WritePlanned,
+    Add,
+    Drop,
 }
 
 impl Entry {
-    pub const ALL: [Entry; 5] = [
+    pub const ALL: [Entry; 7] = [
         Entry::Plan,
         Entry::Accept,
         Entry::Read,
         Entry::WriteCalls,
         Entry::WritePlanned,
+        Entry::Add,
+        Entry::Drop,
     ];
 }
 
@@ -58,6 +68,23 @@ pub enum Input {
         settings: Vec<u8>,
         out: Vec<u8>,
     },
+    Add {
+        net: Network,
+        calls: Vec<u8>,
+        settings: Vec<u8>,
+        call: Vec<u8>,
+        calls_after: Vec<u8>,
+        settings_after: Vec<u8>,
+        moved_rows: Vec<u8>,
+    },
+    Drop {
+        net: Network,
+        calls: Vec<u8>,
+        settings: Vec<u8>,
+        row: usize,
+        calls_after: Vec<u8>,
+        settings_after: Vec<u8>,
+    },
 }
 
 impl Input {
@@ -68,6 +95,8 @@ impl Input {
             Input::Read { .. } => Entry::Read,
             Input::WriteCalls { .. } => Entry::WriteCalls,
             Input::WritePlanned { .. } => Entry::WritePlanned,
+            Input::Add { .. } => Entry::Add,
+            Input::Drop { .. } => Entry::Drop,
         }
     }
 }
@@ -193,18 +222,44 @@ pub fn drawn(seed: u64) -> impl Iterator<Item = Input> {
     std::iter::repeat_with(move || draw(&mut random))
 }
 
-/// Inputs drawn one after the other, without end, all with the larger of r and m for a cycle.
+/// Inputs of the entries for whole tables, drawn one after the other, without end.
+pub fn drawn_of_tables(seed: u64) -> impl Iterator<Item = Input> {
+    let mut random = Random::seeded(seed);
+    std::iter::repeat_with(move || draw_of_table(&mut random, Cycles::Drawn))
+}
+
+/// The same, all with the larger of r and m for a cycle.
 pub fn drawn_of_sizes(seed: u64) -> impl Iterator<Item = Input> {
     let mut random = Random::seeded(seed);
-    std::iter::repeat_with(move || draw_with(&mut random, Cycles::OfSizes))
+    std::iter::repeat_with(move || draw_of_table(&mut random, Cycles::OfSizes))
 }
 
-/// Draws an input of any of the five entries.
+/// Inputs that add a call or drop one, drawn one after the other, without end.
+pub fn drawn_steps(seed: u64) -> impl Iterator<Item = Input> {
+    let mut random = Random::seeded(seed);
+    std::iter::repeat_with(move || draw_step(&mut random))
+}
+
+/// Draws an input of any of the seven entries.
 pub fn draw(random: &mut Random) -> Input {
-    draw_with(random, Cycles::Drawn)
+    if random.below(10) < 4 {
+        draw_step(random)
+    } else {
+        draw_of_table(random, Cycles::Drawn)
+    }
 }
 
-fn draw_with(random: &mut Random, cycles: Cycles) -> Input {
+/// Draws an input that adds a call, three times of four, or drops one.
+fn draw_step(random: &mut Random) -> Input {
+    if random.once_in(4) {
+        steps::draw_drop(random)
+    } else {
+        steps::draw_add(random)
+    }
+}
+
+/// Draws an input of planner, acceptance, reader or either writer.
+fn draw_of_table(random: &mut Random, cycles: Cycles) -> Input {
     match random.below(10) {
         0..=2 => draw_plan(random, cycles),
         3 | 4 => draw_accept(random, cycles),

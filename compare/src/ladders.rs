@@ -1,6 +1,7 @@
 //! Call tables made so that chains are long: paths of calls on two centrals in turn, and ladders,
-//! which join shorter paths to a longer one. That their chains are long follows from the choice rule
-//! of document 01; nothing here asks a planner.
+//! which join shorter paths to a longer one. And threads: calls on their centrals, placed so that the
+//! chain of one more call has the length that is asked for. That the chains are so long follows from
+//! the choice rule of document 01; nothing here asks a planner.
 
 use crate::Network;
 
@@ -87,4 +88,58 @@ pub const LARGEST_TIGHT: Network = Network::of_sizes(16, 16, 64);
 pub fn largest_ladder() -> Vec<u8> {
     let modules: Vec<usize> = (0..64).collect();
     rounds_and_ladder(14, &modules, &modules)
+}
+
+/// A call on a central: its input module, its output module, the central.
+pub type Placed = (usize, usize, usize);
+
+/// So many calls on a and b in turn, one at least, from output module 0 to and fro, and one more,
+/// on b, at the input module of `thread_pair`. With no other centrals, a call between these two
+/// modules finds only a free at the one and only b at the other, and its chain is the thread, in
+/// the order in which it stands here.
+pub fn thread(length: usize, a: usize, b: usize) -> Vec<Placed> {
+    let mut placed: Vec<Placed> = (0..length)
+        .map(|place| {
+            let central = if place % 2 == 0 { a } else { b };
+            (place / 2, (place + 1) / 2, central)
+        })
+        .collect();
+    let (input, _) = thread_pair(length);
+    placed.push((input, length / 2 + 1, b));
+    placed
+}
+
+/// The input module and the output module of the call whose chain is the thread.
+pub fn thread_pair(length: usize) -> (usize, usize) {
+    ((length + 1) / 2, 0)
+}
+
+/// How many modules a thread takes on either side, with the one call more.
+pub fn thread_modules(length: usize) -> usize {
+    length / 2 + 2
+}
+
+/// The longest thread of the most modules.
+pub const LONGEST_THREAD: usize = 2 * Network::MOST_MODULES - 3;
+
+/// The largest network with one central more than channels. With no more centrals than channels,
+/// the last call of a full table always finds a common free central: each central but one is in use
+/// at all modules.
+pub const LARGEST_SPARE: Network = Network::of_sizes(16, 17, 64);
+
+/// 1,023 calls of it, the longest thread last, on the lowest centrals: the last call that there can
+/// be, that of `thread_pair`, finds free at its input module the lowest central and the last of a
+/// round, and at its output module the second and the highest.
+pub fn largest_thread() -> Vec<Placed> {
+    let modules = Network::MOST_MODULES;
+    let mut placed = Vec::new();
+    for central in 2..16 {
+        placed.extend((0..modules).map(|input| (input, (input + central) % modules, central)));
+    }
+    let (input, _) = thread_pair(LONGEST_THREAD);
+    placed.retain(|&other| other != (input, (input + 15) % modules, 15));
+    placed.push((input, (input + 15) % modules, 16));
+    placed.push((input - 1, modules - 1, 16));
+    placed.extend(thread(LONGEST_THREAD, 0, 1));
+    placed
 }

@@ -1,20 +1,21 @@
-//! Independent answers to the five entries of the shelf's control, the text of its listing program,
+//! Independent answers to the seven entries of the shelf's control, the text of its listing program,
 //! and the means to compare two implementations of the entries.
 //!
 //! Every answer here is written from the documents alone: the sentences of the scope document 01, its
-//! table of numbers and its bench table, and request 1 of document 02, by which the gratings have a
-//! cycle of their own.
+//! table of numbers and its bench table, and of document 02 request 1, by which the gratings have a
+//! cycle of their own, and request 2, by which single calls are added and dropped.
 //!
 //! Answers: `plain.rs`, and for speed `swift.rs`. Judgements beside them: `light.rs` and
 //! `refusals.rs`. Inputs: `inputs.rs`, `ladders.rs` and `faulty.rs`. Stored inputs: which, in
 //! `catalogue.rs`, and how, in `stored_form.rs`. The library, and the comparison: `library.rs`,
-//! `functions.rs` and `comparison.rs`. Time and stack: `tables.rs` and `stack.rs`.
+//! `functions.rs`, `comparison.rs` and `history.rs`. Time and stack: `tables.rs` and `stack.rs`.
 
 pub mod catalogue;
 pub mod comparison;
 pub mod faulty;
 #[cfg(feature = "library")]
 pub mod functions;
+pub mod history;
 pub mod inputs;
 pub mod ladders;
 #[cfg(feature = "library")]
@@ -78,6 +79,8 @@ impl Network {
 pub const CALL_BYTES: usize = 4;
 /// Bytes of a settings row: wavelength, central, wavelength.
 pub const SETTING_BYTES: usize = 3;
+/// Bytes of a row's number, as an add tells the rows that it moved.
+pub const MOVED_BYTES: usize = 2;
 /// Bytes of the trailer of a plan file.
 pub const TRAILER_BYTES: usize = 12;
 /// The longest note of a plan file.
@@ -93,7 +96,7 @@ pub const KIND_PLANNED: usize = 2;
 pub const LONGEST_FILE: usize =
     LONGEST_NOTE + (CALL_BYTES + SETTING_BYTES) * Network::MOST_ROWS + TRAILER_BYTES;
 
-/// The highest number of a refusal. No refusal has the number 17.
+/// The highest number of a refusal.
 pub const HIGHEST_NUMBER: usize = 18;
 
 /// A refusal: its number, and the row it tells.
@@ -103,7 +106,7 @@ pub struct Refusal {
     pub row: usize,
 }
 
-/// The answer of acceptance and of the two writers.
+/// The answer of acceptance, of a drop and of the two writers.
 #[derive(Clone, Copy, PartialEq, Eq, Default, Debug)]
 #[repr(C)]
 pub struct Verdict {
@@ -111,7 +114,7 @@ pub struct Verdict {
     pub row: usize,
 }
 
-/// The answer of the planner.
+/// The answer of the planner and of an add.
 #[derive(Clone, Copy, PartialEq, Eq, Default, Debug)]
 #[repr(C)]
 pub struct Planned {
@@ -137,7 +140,7 @@ pub struct Told {
     pub settings_at: usize,
 }
 
-/// The five entries. Numbers of any size and slices of any length and content are answered.
+/// The seven entries. Numbers of any size and slices of any length and content are answered.
 pub trait Entries {
     /// Plans a call table, and writes its settings to the first 3K bytes of `settings`.
     fn plan(&self, net: Network, calls: &[u8], settings: &mut [u8]) -> Planned;
@@ -166,5 +169,28 @@ pub trait Entries {
         calls: &[u8],
         settings: &[u8],
         out: &mut [u8],
+    ) -> Verdict;
+
+    /// Adds a call to lawful settings by one step of the choice rule. The rooms are for the calls
+    /// with the new one last, for the settings of all rows, and for the rows moved, in chain order:
+    /// what is written are the first 4(K+1) and 3(K+1) bytes, and 2 for each row moved.
+    fn add(
+        &self,
+        net: Network,
+        calls: &[u8],
+        settings: &[u8],
+        call: &[u8],
+        rooms: [&mut [u8]; 3],
+    ) -> Planned;
+
+    /// Drops a row. The rooms are for the calls and the settings of the rows that are left: what is
+    /// written are the first 4(K−1) and 3(K−1) bytes.
+    fn drop(
+        &self,
+        net: Network,
+        calls: &[u8],
+        settings: &[u8],
+        row: usize,
+        rooms: [&mut [u8]; 2],
     ) -> Verdict;
 }

@@ -7,12 +7,7 @@ pub struct Library;
 
 impl Entries for Library {
     fn plan(&self, net: Network, calls: &[u8], settings: &mut [u8]) -> Planned {
-        let planned = bolikwaru::plan(network(net), calls, settings);
-        Planned {
-            number: planned.number,
-            row: planned.row,
-            moved: planned.moved,
-        }
+        planned(bolikwaru::plan(network(net), calls, settings))
     }
 
     fn accept(&self, net: Network, calls: &[u8], settings: &[u8]) -> Verdict {
@@ -68,6 +63,45 @@ impl Entries for Library {
             out,
         ))
     }
+
+    fn add(
+        &self,
+        net: Network,
+        calls: &[u8],
+        settings: &[u8],
+        call: &[u8],
+        rooms: [&mut [u8]; 3],
+    ) -> Planned {
+        let [calls_after, settings_after, moved_rows] = rooms;
+        planned(bolikwaru::add(
+            network(net),
+            calls,
+            settings,
+            call,
+            calls_after,
+            settings_after,
+            moved_rows,
+        ))
+    }
+
+    fn drop(
+        &self,
+        net: Network,
+        calls: &[u8],
+        settings: &[u8],
+        row: usize,
+        rooms: [&mut [u8]; 2],
+    ) -> Verdict {
+        let [calls_after, settings_after] = rooms;
+        verdict(bolikwaru::drop(
+            network(net),
+            calls,
+            settings,
+            row,
+            calls_after,
+            settings_after,
+        ))
+    }
 }
 
 fn network(net: Network) -> bolikwaru::Network {
@@ -76,6 +110,14 @@ fn network(net: Network) -> bolikwaru::Network {
         m: net.m,
         r: net.r,
         w: net.w,
+    }
+}
+
+fn planned(planned: bolikwaru::Planned) -> Planned {
+    Planned {
+        number: planned.number,
+        row: planned.row,
+        moved: planned.moved,
     }
 }
 

@@ -120,6 +120,33 @@ fn arrives(net: Network, call: &[u8], setting: &[u8], path: &Path) -> bool {
         && is_at(Link::SecondGratingToOutput, output)
 }
 
+/// The same judgement in one pass over the rows, for tables of many: each row's light is marked on
+/// its links, by a bit for each wavelength, and no mark may be there before.
+pub fn lawful_by_marks(net: Network, calls: &[u8], settings: &[u8]) -> bool {
+    let count = calls.len() / CALL_BYTES;
+    if calls.len() != CALL_BYTES * count || settings.len() != SETTING_BYTES * count {
+        return false;
+    }
+    let mut marks = [[0u64; 256]; 4];
+    let mut rows = calls
+        .chunks_exact(CALL_BYTES)
+        .zip(settings.chunks_exact(SETTING_BYTES));
+    rows.all(|(call, setting)| {
+        let path = follow(net, call, setting);
+        arrives(net, call, setting, &path) && mark(&mut marks, &path)
+    })
+}
+
+/// Marks light that arrives, whose wavelengths are below W, and answers whether it is alone.
+fn mark(marks: &mut [[u64; 256]; 4], path: &Path) -> bool {
+    path.iter().flatten().zip(marks).all(|(place, marks)| {
+        let wavelength = 1 << place.wavelength;
+        let is_alone = marks[place.port] & wavelength == 0;
+        marks[place.port] |= wavelength;
+        is_alone
+    })
+}
+
 fn none_collide(paths: &[Path]) -> bool {
     paths.iter().enumerate().all(|(row, path)| {
         paths[..row]

@@ -4,7 +4,7 @@
 
 use crate::{
     Entries, Network, Planned, Refusal, Told, Verdict, CALL_BYTES, KIND_CALLS, KIND_PLANNED,
-    LONGEST_FILE, LONGEST_NOTE, MARK, SETTING_BYTES, TRAILER_BYTES,
+    LONGEST_FILE, LONGEST_NOTE, MARK, MOVED_BYTES, SETTING_BYTES, TRAILER_BYTES,
 };
 
 /// The reference implementation.
@@ -14,19 +14,14 @@ impl Entries for Plain {
     fn plan(&self, net: Network, calls: &[u8], settings: &mut [u8]) -> Planned {
         match try_plan(net, calls, settings.len()) {
             Ok(plan) => {
-                let bytes = settings_bytes(&plan.settings);
-                settings[..bytes.len()].copy_from_slice(&bytes);
+                write_front(settings, &settings_bytes(&plan.settings));
                 Planned {
                     number: 0,
                     row: plan.settings.len(),
                     moved: plan.moved(),
                 }
             }
-            Err(refusal) => Planned {
-                number: refusal.number,
-                row: refusal.row,
-                moved: 0,
-            },
+            Err(refusal) => refused(refusal),
         }
     }
 
@@ -66,6 +61,49 @@ impl Entries for Plain {
     ) -> Verdict {
         verdict(try_write(KIND_PLANNED, net, note, calls, settings, out))
     }
+
+    fn add(
+        &self,
+        net: Network,
+        calls: &[u8],
+        settings: &[u8],
+        call: &[u8],
+        rooms: [&mut [u8]; 3],
+    ) -> Planned {
+        let [calls_after, settings_after, moved_rows] = rooms;
+        let lengths = [calls_after.len(), settings_after.len(), moved_rows.len()];
+        match try_add(net, calls, settings, call, lengths) {
+            Ok(added) => {
+                write_front(calls_after, &[calls, call].concat());
+                write_front(settings_after, &settings_bytes(&added.settings));
+                write_front(moved_rows, &row_numbers(&added.chain));
+                Planned {
+                    number: 0,
+                    row: added.settings.len(),
+                    moved: added.chain.len(),
+                }
+            }
+            Err(refusal) => refused(refusal),
+        }
+    }
+
+    fn drop(
+        &self,
+        net: Network,
+        calls: &[u8],
+        settings: &[u8],
+        row: usize,
+        rooms: [&mut [u8]; 2],
+    ) -> Verdict {
+        let [calls_after, settings_after] = rooms;
+        let lengths = [calls_after.len(), settings_after.len()];
+        let answer = try_drop(net, calls, settings, row, lengths);
+        if answer.is_ok() {
+            write_front(calls_after, &without_row(calls, CALL_BYTES, row));
+            write_front(settings_after, &without_row(settings, SETTING_BYTES, row));
+        }
+        verdict(answer)
+    }
 }
 
 /// A call row. Its inlet is (input_module, input_channel), its outlet (output_module,
@@ -96,6 +134,13 @@ impl Plan {
     fn moved(&self) -> usize {
         self.chains.iter().map(Vec::len).sum()
     }
+}
+
+/// What an add finds: the settings of all rows, the new one last, and the chain as the rows changed,
+/// in their order; none where a common central was free.
+struct Added {
+    settings: Vec<Setting>,
+    chain: Vec<usize>,
 }
 
 /// The number of calls on each chain of a plan, in the order of the chains; none where the planner
@@ -129,6 +174,55 @@ fn try_accept(net: Network, calls: &[u8], settings: &[u8]) -> Result<usize, Refu
     check_calls(net, &rows)?;
     check_settings(net, &rows, &settings_of(settings))?;
     Ok(rows.len())
+}
+
+/// Acceptance of what is given, then the refusals of the new call. Rows before it have passed 5, 6
+/// and 7, and lawful settings leave no module with more than m calls, so of the table with the new
+/// call only the last row can be refused.
+fn try_add(
+    net: Network,
+    calls: &[u8],
+    settings: &[u8],
+    call: &[u8],
+    rooms: [usize; 3],
+) -> Result<Added, Refusal> {
+    let count = try_accept(net, calls, settings)?;
+    if call.len() != CALL_BYTES {
+        return refuse(2, 0);
+    }
+    check_count(count + 1)?;
+    check_room(rooms[0], CALL_BYTES * (count + 1))?;
+    check_room(rooms[1], SETTING_BYTES * (count + 1))?;
+    check_room(rooms[2], MOVED_BYTES * count)?;
+    let rows = calls_of(&[calls, call].concat());
+    check_calls(net, &rows)?;
+    check_modules(net, &rows)?;
+    let mut centrals = settings_of(settings)
+        .iter()
+        .map(|setting| setting.central)
+        .collect();
+    let chain = place_next(net, &rows, &mut centrals);
+    Ok(Added {
+        settings: settings_for(net, &rows, &centrals),
+        chain: chain.unwrap_or_default(),
+    })
+}
+
+/// The number of rows that are left.
+fn try_drop(
+    net: Network,
+    calls: &[u8],
+    settings: &[u8],
+    row: usize,
+    rooms: [usize; 2],
+) -> Result<usize, Refusal> {
+    let count = try_accept(net, calls, settings)?;
+    if row >= count {
+        return refuse(17, 0);
+    }
+    check_room(rooms[0], CALL_BYTES * (count - 1))?;
+    check_room(rooms[1], SETTING_BYTES * (count - 1))?;
+    Ok(count - 1)
 }
 
 fn try_write(
@@ -204,6 +298,14 @@ fn refuse_first(
     }
 }
 
+fn refused(refusal: Refusal) -> Planned {
+    Planned {
+        number: refusal.number,
+        row: refusal.row,
+        moved: 0,
+    }
+}
+
 fn verdict(answer: Result<usize, Refusal>) -> Verdict {
     match answer {
         Ok(count) => Verdict {
@@ -250,6 +352,23 @@ fn settings_bytes(settings: &[Setting]) -> Vec<u8> {
         bytes.push(setting.y as u8);
     }
     bytes
+}
+
+/// Rows by their numbers, two bytes each, the high byte first.
+fn row_numbers(rows: &[usize]) -> Vec<u8> {
+    rows.iter().flat_map(|&row| two_bytes(row)).collect()
+}
+
+/// A table of rows of so many bytes without one of them; later rows close up.
+fn without_row(table: &[u8], length: usize, dropped: usize) -> Vec<u8> {
+    let mut rows: Vec<&[u8]> = table.chunks_exact(length).collect();
+    rows.remove(dropped);
+    rows.concat()
+}
+
+/// Writes bytes to the front of a room that has been checked; the bytes beyond keep their values.
+fn write_front(room: &mut [u8], bytes: &[u8]) {
+    room[..bytes.len()].copy_from_slice(bytes);
 }
 
 // The refusals that are not sought in rows.
@@ -424,28 +543,33 @@ fn wavelength(entered: usize, port: usize, cycle: usize) -> usize {
 fn place_all(net: Network, calls: &[Call]) -> Plan {
     let mut centrals = Vec::new();
     let mut chains = Vec::new();
-    for call in calls {
-        let at_input = centrals_at_input(calls, &centrals, call.input_module);
-        let at_output = centrals_at_output(calls, &centrals, call.output_module);
-        let common =
-            (0..net.m).find(|central| !at_input.contains(central) && !at_output.contains(central));
-        let chosen = match common {
-            Some(central) => central,
-            None => {
-                let a = lowest_free(net, &at_input);
-                let b = lowest_free(net, &at_output);
-                let chain = chain_from(calls, &centrals, call.output_module, a, b);
-                exchange(&mut centrals, &chain, a, b);
-                chains.push(chain);
-                a
-            }
-        };
-        centrals.push(chosen);
+    while centrals.len() < calls.len() {
+        chains.extend(place_next(net, calls, &mut centrals));
     }
     Plan {
         settings: settings_for(net, calls, &centrals),
         chains,
     }
+}
+
+/// One step of the choice rule: places the first call that has no central yet, and answers the chain
+/// if one was needed. With that call no module has more calls than there are centrals.
+fn place_next(net: Network, calls: &[Call], centrals: &mut Vec<usize>) -> Option<Vec<usize>> {
+    let call = &calls[centrals.len()];
+    let at_input = centrals_at_input(calls, centrals, call.input_module);
+    let at_output = centrals_at_output(calls, centrals, call.output_module);
+    let common =
+        (0..net.m).find(|central| !at_input.contains(central) && !at_output.contains(central));
+    if let Some(central) = common {
+        centrals.push(central);
+        return None;
+    }
+    let a = lowest_free(net, &at_input);
+    let b = lowest_free(net, &at_output);
+    let chain = chain_from(calls, centrals, call.output_module, a, b);
+    exchange(centrals, &chain, a, b);
+    centrals.push(a);
+    Some(chain)
 }
 
 /// The centrals of the calls placed so far at an input module.

@@ -1,17 +1,17 @@
-//! Which refusals apply to an input, each judged by its own sentence of document 01 or of request 1
-//! of document 02, and which of them is owed by the order of the entry. This is a judgement of its
-//! own beside `plain.rs`, of which it uses nothing: it leans on the forms of `inputs.rs` and on the
-//! constants of the package.
+//! Which refusals apply to an input, each judged by its own sentence of document 01 or of requests
+//! 1 and 2 of document 02, and which of them is owed by the order of the entry. This is a judgement
+//! of its own beside `plain.rs`, of which it uses nothing: it leans on the forms of `inputs.rs` and
+//! on the constants of the package.
 
 use crate::inputs::Input;
 use crate::{
-    Network, Refusal, CALL_BYTES, KIND_CALLS, KIND_PLANNED, LONGEST_NOTE, MARK, SETTING_BYTES,
-    TRAILER_BYTES,
+    Network, Refusal, CALL_BYTES, KIND_CALLS, KIND_PLANNED, LONGEST_NOTE, MARK, MOVED_BYTES,
+    SETTING_BYTES, TRAILER_BYTES,
 };
 
 // The order of refusals.
 
-/// The entries, the reader once for each kind of file.
+/// The entries for whole tables, the reader once for each kind of file.
 #[derive(Clone, Copy, PartialEq, Eq, Debug)]
 pub enum Asked {
     Plan,
@@ -45,6 +45,25 @@ impl Asked {
     }
 }
 
+/// The entries for single calls. Acceptance of what is given comes first for both.
+#[derive(Clone, Copy, PartialEq, Eq, Debug)]
+pub enum Step {
+    Add,
+    Drop,
+}
+
+impl Step {
+    pub const ALL: [Step; 2] = [Step::Add, Step::Drop];
+
+    /// The refusals that the entry can give when acceptance has none, in the document's order.
+    pub fn order(self) -> &'static [usize] {
+        match self {
+            Step::Add => &[2, 3, 4, 5, 6, 7, 8],
+            Step::Drop => &[17, 4],
+        }
+    }
+}
+
 /// Whether a refusal tells a row.
 pub fn is_sought_in_rows(number: usize) -> bool {
     (5..=13).contains(&number)
@@ -70,12 +89,32 @@ pub fn first_in_order(order: &[usize], applying: &[Refusal]) -> Option<Refusal> 
         .copied()
 }
 
+/// The answer that is owed to an input by all refusals that apply to it.
+pub fn owed_refusal(input: &Input) -> Option<Refusal> {
+    let applying = applying_refusals(input);
+    let owed_by = |asked: Asked| first_in_order(asked.order(), &applying);
+    let owed_after_acceptance = |step: Step| {
+        owed_by(Asked::Accept)
+            .or_else(|| first_in_order(step.order(), &applying_after_acceptance(input)))
+    };
+    match input {
+        Input::Plan { .. } => owed_by(Asked::Plan),
+        Input::Accept { .. } => owed_by(Asked::Accept),
+        // A file of calls only never has those that come in addition.
+        Input::Read { .. } => owed_by(Asked::ReadPlanned),
+        Input::WriteCalls { .. } => owed_by(Asked::WriteCalls),
+        Input::WritePlanned { .. } => owed_by(Asked::WritePlanned),
+        Input::Add { .. } => owed_after_acceptance(Step::Add),
+        Input::Drop { .. } => owed_after_acceptance(Step::Drop),
+    }
+}
+
 // The refusals of each entry.
 
 /// All refusals that apply to an input, each judged by its own sentence alone, as if no other were
-/// tried before it. One is left out only where it can't be judged: rows and distances of a file
-/// without a trailer or without a known kind, rows that a file doesn't hold, and 9 to 13 where the
-/// cycle is 0.
+/// tried before it; for a single call those of acceptance of what is given. One is left out only
+/// where it can't be judged: rows and distances of a file without a trailer or without a known
+/// kind, rows that a file doesn't hold, and 9 to 13 where the cycle is 0.
 pub fn applying_refusals(input: &Input) -> Vec<Refusal> {
     match input {
         Input::Plan {
@@ -87,6 +126,18 @@ pub fn applying_refusals(input: &Input) -> Vec<Refusal> {
             net,
             calls,
             settings,
+        }
+        | Input::Add {
+            net,
+            calls,
+            settings,
+            ..
+        }
+        | Input::Drop {
+            net,
+            calls,
+            settings,
+            ..
         } => of_accept(*net, calls, settings),
         Input::Read { file } => of_read(file),
         Input::WriteCalls {
@@ -104,6 +155,92 @@ pub fn applying_refusals(input: &Input) -> Vec<Refusal> {
             out,
         } => of_write_planned(*net, note, calls, settings, out.len()),
     }
+}
+
+/// All refusals of a single call that apply besides those of what is given, each judged by its own
+/// sentence alone; none for a whole table. 5 to 8 are left out where there are no 4 bytes to be
+/// judged.
+pub fn applying_after_acceptance(input: &Input) -> Vec<Refusal> {
+    match input {
+        Input::Add {
+            net,
+            calls,
+            call,
+            calls_after,
+            settings_after,
+            moved_rows,
+            ..
+        } => {
+            let rooms = [calls_after.len(), settings_after.len(), moved_rows.len()];
+            of_add(*net, calls, call, rooms)
+        }
+        Input::Drop {
+            calls,
+            row,
+            calls_after,
+            settings_after,
+            ..
+        } => of_drop(calls, *row, [calls_after.len(), settings_after.len()]),
+        _ => Vec::new(),
+    }
+}
+
+fn of_add(net: Network, calls: &[u8], call: &[u8], rooms: [usize; 3]) -> Vec<Refusal> {
+    let count = calls.len() / CALL_BYTES;
+    let mut list = Vec::new();
+    add_if(&mut list, 2, call.len() != CALL_BYTES);
+    add_if(&mut list, 3, count >= Network::MOST_ROWS);
+    let needed = [
+        CALL_BYTES * (count + 1),
+        SETTING_BYTES * (count + 1),
+        MOVED_BYTES * count,
+    ];
+    let is_short = rooms
+        .iter()
+        .zip(needed)
+        .any(|(&room, needed)| room < needed);
+    add_if(&mut list, 4, is_short);
+    if call.len() >= CALL_BYTES {
+        add_new_call_refusals(&mut list, net, calls, &call[..CALL_BYTES]);
+    }
+    list
+}
+
+/// 5 to 8 of a new call, with the row that it would have.
+fn add_new_call_refusals(list: &mut Vec<Refusal>, net: Network, calls: &[u8], call: &[u8]) {
+    let rows = rows_of(calls, CALL_BYTES);
+    let mut add = |number: usize, applies: bool| {
+        if applies {
+            list.push(Refusal {
+                number,
+                row: rows.len(),
+            });
+        }
+    };
+    let limits = [net.r, net.n, net.r, net.n];
+    let is_outside = call
+        .iter()
+        .zip(limits)
+        .any(|(&number, limit)| usize::from(number) >= limit);
+    let has_same = |from: usize, to: usize| {
+        rows.iter()
+            .filter(|row| row[from..to] == call[from..to])
+            .count()
+    };
+    add(5, is_outside);
+    add(6, has_same(0, 2) > 0);
+    add(7, has_same(2, 4) > 0);
+    add(8, has_same(0, 1) >= net.m || has_same(2, 3) >= net.m);
+}
+
+fn of_drop(calls: &[u8], row: usize, rooms: [usize; 2]) -> Vec<Refusal> {
+    let count = calls.len() / CALL_BYTES;
+    let left = count.saturating_sub(1);
+    let mut list = Vec::new();
+    add_if(&mut list, 17, row >= count);
+    let is_short = rooms[0] < CALL_BYTES * left || rooms[1] < SETTING_BYTES * left;
+    add_if(&mut list, 4, is_short);
+    list
 }
 
 fn of_plan(net: Network, calls: &[u8], room: usize) -> Vec<Refusal> {

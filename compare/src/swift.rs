@@ -1,10 +1,12 @@
 //! The same answers, written for speed by the usual method: a record of use with one byte for each
 //! module of each side and each central, a chain that finds its next row by reading the rows placed
-//! so far from row 0 up, and marks for inlets, outlets and pairs. Everything stands on the stack.
+//! so far from row 0 up, and marks for inlets, outlets and pairs. A single call is added in one pass
+//! over the rows for the use of its two modules, and where it needs a chain in one more for the rows
+//! on the two centrals. Everything stands on the stack.
 
 use crate::{
     Entries, Network, Planned, Refusal, Told, Verdict, CALL_BYTES, KIND_CALLS, KIND_PLANNED,
-    LONGEST_NOTE, MARK, SETTING_BYTES, TRAILER_BYTES,
+    LONGEST_NOTE, MARK, MOVED_BYTES, SETTING_BYTES, TRAILER_BYTES,
 };
 
 /// The swift implementation.
@@ -18,11 +20,7 @@ impl Entries for Swift {
                 row: count,
                 moved: place_all(net, calls, &mut settings[..SETTING_BYTES * count]),
             },
-            Err(refusal) => Planned {
-                number: refusal.number,
-                row: refusal.row,
-                moved: 0,
-            },
+            Err(refusal) => into_planned(refusal),
         }
     }
 
@@ -69,10 +67,60 @@ impl Entries for Swift {
     ) -> Verdict {
         into_verdict(write(KIND_PLANNED, net, note, calls, settings, out))
     }
+
+    fn add(
+        &self,
+        net: Network,
+        calls: &[u8],
+        settings: &[u8],
+        call: &[u8],
+        rooms: [&mut [u8]; 3],
+    ) -> Planned {
+        let [calls_after, settings_after, moved_rows] = rooms;
+        let lengths = [calls_after.len(), settings_after.len(), moved_rows.len()];
+        match check_add(net, calls, settings, call, lengths) {
+            Ok(ends) => {
+                append(append(calls_after, calls), call);
+                let rooms = [settings_after, moved_rows];
+                Planned {
+                    number: 0,
+                    row: calls.len() / CALL_BYTES + 1,
+                    moved: place_one(net, calls, settings, call, &ends, rooms),
+                }
+            }
+            Err(refusal) => into_planned(refusal),
+        }
+    }
+
+    fn drop(
+        &self,
+        net: Network,
+        calls: &[u8],
+        settings: &[u8],
+        row: usize,
+        rooms: [&mut [u8]; 2],
+    ) -> Verdict {
+        let [calls_after, settings_after] = rooms;
+        let lengths = [calls_after.len(), settings_after.len()];
+        let answer = check_drop(net, calls, settings, row, lengths);
+        if answer.is_ok() {
+            copy_without(calls_after, calls, CALL_BYTES, row);
+            copy_without(settings_after, settings, SETTING_BYTES, row);
+        }
+        into_verdict(answer)
+    }
 }
 
 fn refuse<T>(number: usize, row: usize) -> Result<T, Refusal> {
     Err(Refusal { number, row })
+}
+
+fn into_planned(refusal: Refusal) -> Planned {
+    Planned {
+        number: refusal.number,
+        row: refusal.row,
+        moved: 0,
+    }
 }
 
 fn into_verdict(answer: Result<usize, Refusal>) -> Verdict {
@@ -113,6 +161,53 @@ fn check_accept(net: Network, calls: &[u8], settings: &[u8]) -> Result<usize, Re
     check_calls(net, calls)?;
     check_settings(net, calls, settings)?;
     Ok(count)
+}
+
+/// All refusals of an add; without one, the use of the new call's modules.
+fn check_add(
+    net: Network,
+    calls: &[u8],
+    settings: &[u8],
+    call: &[u8],
+    rooms: [usize; 3],
+) -> Result<Ends, Refusal> {
+    let count = check_accept(net, calls, settings)?;
+    if call.len() != CALL_BYTES {
+        return refuse(2, 0);
+    }
+    check_count(count + 1)?;
+    if rooms[0] < CALL_BYTES * (count + 1)
+        || rooms[1] < SETTING_BYTES * (count + 1)
+        || rooms[2] < MOVED_BYTES * count
+    {
+        return refuse(4, 0);
+    }
+    check_new_call(net, calls, settings, call)
+}
+
+/// All refusals of a drop; without one, the number of rows that are left.
+fn check_drop(
+    net: Network,
+    calls: &[u8],
+    settings: &[u8],
+    row: usize,
+    rooms: [usize; 2],
+) -> Result<usize, Refusal> {
+    let count = check_accept(net, calls, settings)?;
+    if row >= count {
+        return refuse(17, 0);
+    }
+    let left = count - 1;
+    if rooms[0] < CALL_BYTES * left || rooms[1] < SETTING_BYTES * left {
+        return refuse(4, 0);
+    }
+    Ok(left)
+}
+
+/// Copies a table of rows of so many bytes but for one row.
+fn copy_without(room: &mut [u8], table: &[u8], length: usize, row: usize) {
+    let (before, rest) = table.split_at(length * row);
+    append(append(room, before), &rest[length..]);
 }
 
 fn check_read(file: &[u8]) -> Result<Told, Refusal> {
@@ -523,7 +618,157 @@ fn fill_wavelengths(cycle: usize, calls: &[u8], settings: &mut [u8]) {
         .zip(settings.chunks_exact_mut(SETTING_BYTES));
     for (call, setting) in rows {
         let central = usize::from(setting[CENTRAL]);
-        setting[0] = sum(usize::from(call[INPUT]), central, cycle) as u8;
-        setting[2] = sum(central, usize::from(call[OUTPUT]), cycle) as u8;
+        write_setting(cycle, call, setting, central);
+    }
+}
+
+/// Writes the settings row that a call needs on a central.
+fn write_setting(cycle: usize, call: &[u8], setting: &mut [u8], central: usize) {
+    setting[0] = sum(usize::from(call[INPUT]), central, cycle) as u8;
+    setting[CENTRAL] = central as u8;
+    setting[2] = sum(central, usize::from(call[OUTPUT]), cycle) as u8;
+}
+
+// A single call.
+
+/// Which centrals are in use at the input module and at the output module of a new call.
+struct Ends {
+    at_input: Use,
+    at_output: Use,
+}
+
+/// Refusals 5, 6, 7 and 8 of a new call, in one pass over the rows for all but 5; without one, the
+/// use of its modules. The rows have been accepted, so a module has as many calls as centrals in
+/// use.
+fn check_new_call(
+    net: Network,
+    calls: &[u8],
+    settings: &[u8],
+    call: &[u8],
+) -> Result<Ends, Refusal> {
+    let count = calls.len() / CALL_BYTES;
+    let modules_inside = usize::from(call[0].max(call[2])) < net.r;
+    let channels_inside = usize::from(call[1].max(call[3])) < net.n;
+    if !modules_inside || !channels_inside {
+        return refuse(5, count);
+    }
+    let mut ends = Ends {
+        at_input: [0; Network::MOST_CENTRALS],
+        at_output: [0; Network::MOST_CENTRALS],
+    };
+    let mut inlet_is_used = false;
+    let mut outlet_is_used = false;
+    let mut input_calls = 0;
+    let mut output_calls = 0;
+    let rows = calls
+        .chunks_exact(CALL_BYTES)
+        .zip(settings.chunks_exact(SETTING_BYTES));
+    for (other, setting) in rows {
+        let central = usize::from(setting[CENTRAL]);
+        if other[INPUT] == call[INPUT] {
+            inlet_is_used |= other[INPUT + 1] == call[INPUT + 1];
+            input_calls += 1;
+            ends.at_input[central] = 1;
+        }
+        if other[OUTPUT] == call[OUTPUT] {
+            outlet_is_used |= other[OUTPUT + 1] == call[OUTPUT + 1];
+            output_calls += 1;
+            ends.at_output[central] = 1;
+        }
+    }
+    if inlet_is_used {
+        return refuse(6, count);
+    }
+    if outlet_is_used {
+        return refuse(7, count);
+    }
+    if input_calls >= net.m || output_calls >= net.m {
+        return refuse(8, count);
+    }
+    Ok(ends)
+}
+
+/// Places a new call, which has passed all refusals, after the rows given: writes the settings of all
+/// rows and the rows moved, and answers how many these are.
+fn place_one(
+    net: Network,
+    calls: &[u8],
+    settings: &[u8],
+    call: &[u8],
+    ends: &Ends,
+    rooms: [&mut [u8]; 2],
+) -> usize {
+    let [settings_after, moved_rows] = rooms;
+    append(settings_after, settings);
+    let (placed, new_setting) = settings_after.split_at_mut(settings.len());
+    if let Some(central) = lowest_common(&ends.at_input, &ends.at_output, net.m) {
+        write_setting(net.cycle(), call, new_setting, central);
+        return 0;
+    }
+    let a = lowest_free(&ends.at_input, net.m);
+    let b = lowest_free(&ends.at_output, net.m);
+    write_setting(net.cycle(), call, new_setting, a);
+    let start = usize::from(call[OUTPUT]);
+    let chain = Chain::new(calls, settings, a, b);
+    chain.exchange(net.cycle(), calls, start, [placed, moved_rows])
+}
+
+/// The rows on the two centrals of a chain, by the module at which the chain enters them: for each
+/// output module the row there on a, and for each input module the row there on b.
+struct Chain {
+    a: usize,
+    b: usize,
+    at_outputs: [Option<u16>; Network::MOST_MODULES],
+    at_inputs: [Option<u16>; Network::MOST_MODULES],
+}
+
+impl Chain {
+    /// The rows have been accepted, so no two of them are at the same module on the same central.
+    fn new(calls: &[u8], settings: &[u8], a: usize, b: usize) -> Chain {
+        let mut chain = Chain {
+            a,
+            b,
+            at_outputs: [None; Network::MOST_MODULES],
+            at_inputs: [None; Network::MOST_MODULES],
+        };
+        let rows = calls
+            .chunks_exact(CALL_BYTES)
+            .zip(settings.chunks_exact(SETTING_BYTES));
+        for (row, (call, setting)) in rows.enumerate() {
+            let central = usize::from(setting[CENTRAL]);
+            if central == a {
+                chain.at_outputs[usize::from(call[OUTPUT])] = Some(row as u16);
+            } else if central == b {
+                chain.at_inputs[usize::from(call[INPUT])] = Some(row as u16);
+            }
+        }
+        chain
+    }
+
+    /// Changes every row of the chain that starts at an output module between a and b, tells these
+    /// rows in their order, and answers how many they are. The rooms are for settings that hold
+    /// those given, and for the rows moved.
+    fn exchange(&self, cycle: usize, calls: &[u8], start: usize, rooms: [&mut [u8]; 2]) -> usize {
+        let [placed, moved_rows] = rooms;
+        let mut moved = 0;
+        let mut move_row = |row: usize, central: usize| {
+            let call = &calls[CALL_BYTES * row..];
+            write_setting(cycle, call, &mut placed[SETTING_BYTES * row..], central);
+            append(&mut moved_rows[MOVED_BYTES * moved..], &two_bytes(row));
+            moved += 1;
+        };
+        let mut output_module = start;
+        while let Some(row) = self.at_outputs[output_module].map(usize::from) {
+            move_row(row, self.b);
+            let input_module = usize::from(calls[CALL_BYTES * row + INPUT]);
+            match self.at_inputs[input_module].map(usize::from) {
+                Some(back) => {
+                    move_row(back, self.a);
+                    output_module = usize::from(calls[CALL_BYTES * back + OUTPUT]);
+                }
+                None => break,
+            }
+        }
+        moved
     }
 }

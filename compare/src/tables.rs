@@ -1,19 +1,28 @@
 //! The tables on which implementations are timed, and the calls that are timed on each.
 
-use crate::inputs::{call_of, file_of, settings_length, spread_calls, Random};
-use crate::ladders::{calls_of_pairs, ladder, largest_ladder, LARGEST_TIGHT};
+use crate::inputs::{call_of, file_of, settings_length, spread_calls, Random, Running};
+use crate::ladders::{
+    calls_of_pairs, ladder, largest_ladder, largest_thread, thread_pair, LARGEST_SPARE,
+    LARGEST_TIGHT, LONGEST_THREAD,
+};
 use crate::swift::Swift;
-use crate::{Entries, Network, CALL_BYTES, KIND_CALLS, KIND_PLANNED};
+use crate::{
+    Entries, Network, Planned, Verdict, CALL_BYTES, KIND_CALLS, KIND_PLANNED, MOVED_BYTES,
+    SETTING_BYTES,
+};
 
-/// A table with the settings that the planner gives it, how many calls it moves, and both files.
+/// A table with the settings that the planner gives it, how many calls it moves, and both files;
+/// and for adding its last call, the calls before it with settings, and how many of these it moves.
 pub struct Table {
     pub name: &'static str,
     pub net: Network,
     pub calls: Vec<u8>,
     pub settings: Vec<u8>,
     pub moved: usize,
+    pub moved_by_last: usize,
     calls_file: Vec<u8>,
     planned_file: Vec<u8>,
+    before: Running,
 }
 
 const NOTE: [u8; 16] = *b"benchmark's note";
@@ -24,11 +33,27 @@ const SPREAD: Network = Network::of_sizes(16, 32, 64);
 const NARROW: Network = Network::of_sizes(2, 2, 64);
 
 impl Table {
-    fn new(name: &'static str, net: Network, calls: Vec<u8>) -> Table {
+    /// A table whose last call is added to the planner's settings of those before it.
+    fn new(name: &'static str, net: Network, mut calls: Vec<u8>) -> Table {
+        let call = calls.split_off(calls.len() - CALL_BYTES);
+        let mut settings = vec![0; settings_length(&calls)];
+        Swift.plan(net, &calls, &mut settings);
+        let before = Running {
+            net,
+            calls,
+            settings,
+        };
+        Table::after(name, before, &call)
+    }
+
+    /// A table whose last call is added to settings of any maker.
+    fn after(name: &'static str, before: Running, call: &[u8]) -> Table {
+        let net = before.net;
+        let calls = [&before.calls, call].concat();
         let mut settings = vec![0; settings_length(&calls)];
         let planned = Swift.plan(net, &calls, &mut settings);
         assert_eq!(planned.number, 0, "{} can be planned", name);
-        Table {
+        let mut table = Table {
             name,
             net,
             calls_file: file_of(KIND_CALLS, net, &NOTE, &calls, &[]),
@@ -36,7 +61,11 @@ impl Table {
             calls,
             settings,
             moved: planned.moved,
-        }
+            moved_by_last: 0,
+            before,
+        };
+        table.moved_by_last = add_last(&Swift, &table, &mut [0; LARGEST_ROOM]).moved;
+        table
     }
 
     /// K.
@@ -46,9 +75,13 @@ impl Table {
 }
 
 /// The tables: a full one in a drawn order; a ladder, whose chains grow; a full one that ends in a
-/// ladder; and one that needs no chain.
-pub fn tables() -> [Table; 4] {
+/// ladder; one that needs no chain, and the first half of it; and one whose last call, added to
+/// settings of another maker, needs the longest chain.
+pub fn tables() -> [Table; 6] {
     let spread = spread_calls(&mut Random::seeded(3), SPREAD, 1024);
+    let half = spread[..CALL_BYTES * 512].to_vec();
+    let pair = thread_pair(LONGEST_THREAD);
+    let (threaded, last) = Running::with_new_pair(LARGEST_SPARE, &largest_thread(), pair);
     [
         Table::new("random full 16-16-64", LARGEST_TIGHT, full_calls(1)),
         Table::new("ladder 2-2-64", NARROW, calls_of_pairs(&ladder(64))),
@@ -58,6 +91,8 @@ pub fn tables() -> [Table; 4] {
             largest_ladder(),
         ),
         Table::new("spread 16-32-64", SPREAD, spread),
+        Table::new("half of spread 16-32-64", SPREAD, half),
+        Table::after("longest thread 16-17-64", threaded, &last),
     ]
 }
 
@@ -80,11 +115,15 @@ fn full_calls(seed: u64) -> Vec<u8> {
         .collect()
 }
 
+/// Bytes of the rooms of the largest add, one after the other, which are more than the longest file.
+pub const LARGEST_ROOM: usize =
+    (CALL_BYTES + SETTING_BYTES) * Network::MOST_ROWS + MOVED_BYTES * (Network::MOST_ROWS - 1);
+
 /// A call that is timed: its name, and the call. The room that it needs is made before.
 pub type Timed = (&'static str, fn(&dyn Entries, &Table, &mut [u8]) -> usize);
 
 /// The calls that are timed. Each answers the number that it was given, and none is refused.
-pub const TIMED: [Timed; 6] = [
+pub const TIMED: [Timed; 9] = [
     ("plan", |entries, table, room| {
         entries.plan(table.net, &table.calls, room).number
     }),
@@ -109,4 +148,64 @@ pub const TIMED: [Timed; 6] = [
             .write_planned(table.net, &NOTE, &table.calls, &table.settings, room)
             .number
     }),
+    ("add the last call", |entries, table, room| {
+        add_last(entries, table, room).number
+    }),
+    ("drop the first call", |entries, table, room| {
+        drop_row(entries, table, 0, room).number
+    }),
+    ("drop the last call", |entries, table, room| {
+        drop_row(entries, table, table.count() - 1, room).number
+    }),
 ];
+
+/// Adds the last call to those before it. The rooms for calls and settings are exact.
+fn add_last(entries: &dyn Entries, table: &Table, room: &mut [u8]) -> Planned {
+    let Running {
+        net,
+        calls,
+        settings,
+    } = &table.before;
+    let call = &table.calls[calls.len()..];
+    let (calls_after, rest) = room.split_at_mut(table.calls.len());
+    let (settings_after, moved_rows) = rest.split_at_mut(table.settings.len());
+    let rooms = [calls_after, settings_after, moved_rows];
+    entries.add(*net, calls, settings, call, rooms)
+}
+
+/// Drops a row. The room for the calls is one row longer than it has to be.
+fn drop_row(entries: &dyn Entries, table: &Table, row: usize, room: &mut [u8]) -> Verdict {
+    let (calls_after, settings_after) = room.split_at_mut(table.calls.len());
+    let rooms = [calls_after, settings_after];
+    entries.drop(table.net, &table.calls, &table.settings, row, rooms)
+}
+
+#[cfg(test)]
+mod tests {
+    use super::*;
+
+    /// How many calls there are, and how many the last one moves.
+    #[test]
+    fn last_calls_move_none_or_many() {
+        let moved = tables().map(|table| (table.count(), table.moved_by_last));
+        let owed = [
+            (1024, 0),
+            (128, 0),
+            (1024, 0),
+            (1024, 0),
+            (512, 0),
+            (1024, 125),
+        ];
+        assert_eq!(moved, owed);
+    }
+
+    #[test]
+    fn no_timed_call_is_refused() {
+        for table in tables() {
+            for (name, call) in TIMED {
+                let number = call(&Swift, &table, &mut [0; LARGEST_ROOM]);
+                assert_eq!(number, 0, "{} of {}", name, table.name);
+            }
+        }
+    }
+}

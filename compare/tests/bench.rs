@@ -1,5 +1,6 @@
 //! The plain implementation on the bench table and on the example file of document 01, with the
-//! answers as they stand there.
+//! answers as they stand there; then on single calls added and dropped, whose answers follow from the
+//! bench table or are worked out by hand.
 
 use compare::plain::{listing, Plain};
 use compare::{Entries, Network, Planned, Told, Verdict, LONGEST_FILE};
@@ -132,4 +133,187 @@ fn files_longer_than_the_longest_are_too_long() {
     assert_eq!(LONGEST_FILE, 7435);
     assert_eq!(listing(&[0; 7435]), b"refused 14 row 0\n");
     assert_eq!(listing(&[0; 7436]), b"too long\n");
+}
+
+// Single calls.
+
+/// An add with room for all and two bytes beyond each room, which keep their values: the answer, and
+/// what is written to each room.
+fn added(net: Network, calls: &[u8], settings: &[u8], call: &[u8]) -> (Planned, [Vec<u8>; 3]) {
+    let count = calls.len() / 4;
+    let mut rooms = [4 * (count + 1), 3 * (count + 1), 2 * count].map(|room| vec![77; room + 2]);
+    let [calls_after, settings_after, moved_rows] = &mut rooms;
+    let answer = Plain.add(
+        net,
+        calls,
+        settings,
+        call,
+        [calls_after, settings_after, moved_rows],
+    );
+    let written = match answer.number {
+        0 => [4 * (count + 1), 3 * (count + 1), 2 * answer.moved],
+        _ => [0; 3],
+    };
+    for (room, written) in rooms.iter_mut().zip(written) {
+        assert!(room[written..].iter().all(|&byte| byte == 77));
+        room.truncate(written);
+    }
+    (answer, rooms)
+}
+
+fn assert_added(
+    net: Network,
+    given: [&[u8]; 2],
+    call: &[u8],
+    owed_settings: &[u8],
+    owed_moved: &[u8],
+) {
+    let [calls, settings] = given;
+    let (answer, rooms) = added(net, calls, settings, call);
+    let owed = Planned {
+        number: 0,
+        row: calls.len() / 4 + 1,
+        moved: owed_moved.len() / 2,
+    };
+    assert_eq!(answer, owed);
+    assert_eq!(rooms[0], [calls, call].concat());
+    assert_eq!(rooms[1], owed_settings);
+    assert_eq!(rooms[2], owed_moved);
+}
+
+fn assert_add_refused(net: Network, given: [&[u8]; 2], call: &[u8], number: usize, row: usize) {
+    let (answer, _) = added(net, given[0], given[1], call);
+    let owed = Planned {
+        number,
+        row,
+        moved: 0,
+    };
+    assert_eq!(answer, owed);
+}
+
+/// The last call of case 4 moves rows 1 and 0, in this order.
+#[test]
+fn the_last_call_of_case_4_is_added() {
+    let net = network(2, 2, 3);
+    let before = [0, 0, 0, 1, 1, 2, 1, 0, 2];
+    let owed = [1, 1, 1, 0, 0, 1, 1, 0, 2, 2, 1, 2];
+    assert_planned(net, &CASE_4[..12], &before, 0);
+    assert_added(
+        net,
+        [&CASE_4[..12], &before],
+        &CASE_4[12..],
+        &owed,
+        &[0, 1, 0, 0],
+    );
+}
+
+/// From settings on the upper central, which no planner would give, the lower is the common free one.
+#[test]
+fn an_add_begins_at_the_settings_given() {
+    let net = network(2, 2, 2);
+    assert_added(
+        net,
+        [&[0, 0, 0, 0], &[1, 1, 1]],
+        &[0, 1, 0, 1],
+        &[1, 1, 1, 0, 0, 0],
+        &[],
+    );
+    // Input module 1 is on central 1 and output module 0 on central 0: row 0 makes room.
+    assert_added(
+        net,
+        [&[0, 0, 0, 0, 1, 0, 1, 0], &[0, 0, 0, 0, 1, 0]],
+        &[1, 1, 0, 1],
+        &[1, 1, 1, 0, 1, 0, 1, 0, 0],
+        &[0, 0],
+    );
+}
+
+#[test]
+fn new_calls_are_refused_with_the_row_of_the_new_call() {
+    let net = network(2, 1, 2);
+    let given: [&[u8]; 2] = [&[0, 0, 0, 0], &[0, 0, 0]];
+    assert_add_refused(net, given, &[], 2, 0);
+    assert_add_refused(net, given, &[1, 0, 1, 0, 0], 2, 0);
+    assert_add_refused(net, given, &[1, 2, 1, 0], 5, 1);
+    assert_add_refused(net, given, &[0, 0, 1, 0], 6, 1);
+    assert_add_refused(net, given, &[1, 0, 0, 0], 7, 1);
+    assert_add_refused(net, given, &[0, 1, 1, 0], 8, 1);
+    assert_add_refused(net, given, &[1, 0, 0, 1], 8, 1);
+    // What is given comes first.
+    assert_add_refused(net, [&[0, 0, 0, 0], &[1, 0, 1]], &[], 10, 0);
+    assert_add_refused(net, [&[0, 0, 2, 0], &[0, 0, 0]], &[], 5, 0);
+}
+
+/// K moved rows have to have room, however many there will be.
+#[test]
+fn rooms_of_an_add_are_for_all_rows() {
+    let net = network(2, 2, 2);
+    for short in 0..3 {
+        let mut lengths = [8, 6, 2];
+        lengths[short] -= 1;
+        let mut rooms = lengths.map(|room| vec![77; room]);
+        let [calls_after, settings_after, moved_rows] = &mut rooms;
+        let answer = Plain.add(
+            net,
+            &[0, 0, 0, 0],
+            &[0, 0, 0],
+            &[1, 0, 1, 0],
+            [calls_after, settings_after, moved_rows],
+        );
+        let owed = Planned {
+            number: 4,
+            row: 0,
+            moved: 0,
+        };
+        assert_eq!(answer, owed);
+        assert_eq!(rooms, lengths.map(|room| vec![77; room]));
+    }
+}
+
+/// A drop of one row of case 3, with a byte beyond either room.
+fn drop_of_case_3(row: usize) -> (Verdict, [Vec<u8>; 2]) {
+    let settings = [0, 0, 0, 1, 0, 1, 0, 1, 1, 1, 1, 0];
+    let mut rooms = [13, 10].map(|room| vec![77; room]);
+    let [calls_after, settings_after] = &mut rooms;
+    let answer = Plain.drop(
+        network(2, 2, 2),
+        &CASE_3,
+        &settings,
+        row,
+        [calls_after, settings_after],
+    );
+    (answer, rooms)
+}
+
+#[test]
+fn later_rows_close_up_after_a_drop() {
+    let (answer, [calls, settings]) = drop_of_case_3(1);
+    assert_eq!(answer, Verdict { number: 0, row: 3 });
+    assert_eq!(calls, [0, 0, 0, 0, 1, 1, 0, 1, 0, 1, 1, 1, 77]);
+    assert_eq!(settings, [0, 0, 0, 0, 1, 1, 1, 1, 0, 77]);
+    let (answer, [calls, settings]) = drop_of_case_3(3);
+    assert_eq!(answer, Verdict { number: 0, row: 3 });
+    assert_eq!(calls, [0, 0, 0, 0, 1, 0, 1, 0, 1, 1, 0, 1, 77]);
+    assert_eq!(settings, [0, 0, 0, 1, 0, 1, 0, 1, 1, 77]);
+}
+
+#[test]
+fn rows_that_are_not_there_are_not_dropped() {
+    for row in [4, 5, 1 << 16, 1 << 32, usize::MAX] {
+        let (answer, rooms) = drop_of_case_3(row);
+        assert_eq!(answer, Verdict { number: 17, row: 0 });
+        assert_eq!(rooms, [13, 10].map(|room| vec![77; room]));
+    }
+    // 17 before 4, and 4.
+    let given = ([0, 0, 0, 0, 1, 0, 1, 0], [0, 0, 0, 1, 0, 1]);
+    for (row, number) in [(2, 17), (1, 4)] {
+        let answer = Plain.drop(
+            network(2, 2, 2),
+            &given.0,
+            &given.1,
+            row,
+            [&mut [0; 4], &mut [0; 2]],
+        );
+        assert_eq!(answer, Verdict { number, row: 0 });
+    }
 }

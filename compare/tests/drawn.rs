@@ -8,13 +8,13 @@ use compare::HIGHEST_NUMBER;
 
 /// Fewer inputs where the code is compiled without speed.
 const DRAWN: usize = if cfg!(debug_assertions) {
-    5_000
+    9_000
 } else {
     200_000
 };
 
 /// The numbers that each entry can give.
-const GIVEN: [(Entry, &[usize]); 5] = [
+const GIVEN: [(Entry, &[usize]); 7] = [
     (Entry::Plan, &[0, 1, 2, 3, 4, 5, 6, 7, 8]),
     (Entry::Accept, &[0, 1, 2, 3, 5, 6, 7, 9, 10, 11, 12, 13]),
     (Entry::Read, &[0, 14, 1, 3, 15, 5, 6, 7, 9, 10, 11, 12, 13]),
@@ -22,6 +22,11 @@ const GIVEN: [(Entry, &[usize]); 5] = [
     (
         Entry::WritePlanned,
         &[0, 1, 2, 3, 16, 4, 5, 6, 7, 9, 10, 11, 12, 13, 18],
+    ),
+    (Entry::Add, &[0, 1, 2, 3, 5, 6, 7, 9, 10, 11, 12, 13, 4, 8]),
+    (
+        Entry::Drop,
+        &[0, 1, 2, 3, 5, 6, 7, 9, 10, 11, 12, 13, 17, 4],
     ),
 ];
 

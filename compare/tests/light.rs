@@ -2,9 +2,9 @@
 //! exactly when they are lawful, and lawful settings are planned exactly where no module has more
 //! calls than there are centrals.
 
-use compare::inputs::{call_of, drawn, settings_length, Input};
+use compare::inputs::{call_of, drawn_of_tables, settings_length, Input};
 use compare::ladders::calls_of_pairs;
-use compare::light::{follow, lawful, shared, Link, Path};
+use compare::light::{follow, lawful, lawful_by_marks, shared, Link, Path};
 use compare::plain::Plain;
 use compare::{Entries, Network, CALL_BYTES, SETTING_BYTES};
 
@@ -93,6 +93,7 @@ fn tables_of_two(net: Network) -> Vec<Vec<u8>> {
 /// Acceptance says 0 of a table in order exactly when the settings are lawful. Answers whether.
 fn assert_judged(net: Network, calls: &[u8], settings: &[u8]) -> bool {
     let is_lawful = lawful(net, calls, settings);
+    assert_eq!(lawful_by_marks(net, calls, settings), is_lawful);
     let answer = Plain.accept(net, calls, settings);
     assert_eq!(
         answer.number == 0,
@@ -289,7 +290,7 @@ fn drawn_settings_are_accepted_when_they_are_lawful() {
     let mut with_spare_ports = 0;
     let mut refused = 0;
     let mut lost = [0; 2];
-    for input in drawn(11).take(DRAWN) {
+    for input in drawn_of_tables(11).take(DRAWN) {
         if let Input::Accept {
             net,
             calls,
@@ -299,11 +300,13 @@ fn drawn_settings_are_accepted_when_they_are_lawful() {
             match Plain.accept(net, &calls, &settings).number {
                 0 => {
                     assert!(lawful(net, &calls, &settings));
+                    assert!(lawful_by_marks(net, &calls, &settings));
                     accepted += 1;
                     with_spare_ports += usize::from(net.cycle() > net.least_cycle());
                 }
                 9..=13 => {
                     assert!(!lawful(net, &calls, &settings));
+                    assert!(!lawful_by_marks(net, &calls, &settings));
                     refused += 1;
                     let ends = ends_at_spare_port(net, &calls, &settings);
                     for (count, is_lost) in lost.iter_mut().zip(ends) {
@@ -338,7 +341,7 @@ fn is_overfull(net: Network, calls: &[u8]) -> bool {
 fn planned_settings_are_lawful_unless_a_module_is_overfull() {
     let mut planned = 0;
     let mut with_spare_ports = 0;
-    for input in drawn(12).take(DRAWN) {
+    for input in drawn_of_tables(12).take(DRAWN) {
         if let Input::Plan { net, calls, .. } = input {
             let mut settings = vec![0; settings_length(&calls)];
             match Plain.plan(net, &calls, &mut settings).number {

@@ -2,7 +2,7 @@
 //! of centrals doesn't depend on the cycle, and files go to and fro. What the light does is checked in
 //! `light.rs`.
 
-use compare::inputs::{drawn, Input};
+use compare::inputs::{drawn_of_tables, Input};
 use compare::ladders::{calls_of_pairs, ladder, largest_ladder, path, LARGEST_TIGHT};
 use compare::plain::{chain_lengths, Plain};
 use compare::{Entries, Network, Planned};
@@ -37,7 +37,7 @@ fn moved_from_outside(net: Network, calls: &[u8]) -> usize {
 #[test]
 fn moved_counts_the_rows_that_change() {
     let mut counted = 0;
-    for input in drawn(13).take(DRAWN) {
+    for input in drawn_of_tables(13).take(DRAWN) {
         if let Input::Plan { net, calls, .. } = input {
             let mut settings = vec![0; 3 * (calls.len() / 4)];
             let answer = Plain.plan(net, &calls, &mut settings);
@@ -75,7 +75,7 @@ fn plan_centrals(net: Network, calls: &[u8]) -> (Planned, Vec<u8>) {
 #[test]
 fn centrals_do_not_depend_on_the_cycle() {
     let mut compared = 0;
-    for input in drawn(16).take(DRAWN) {
+    for input in drawn_of_tables(16).take(DRAWN) {
         if let Input::Plan { net, calls, .. } = input {
             let least = net.least_cycle();
             if net.cycle() > least && net.cycle() <= Network::MOST_WAVELENGTHS {
@@ -93,7 +93,7 @@ fn centrals_do_not_depend_on_the_cycle() {
 #[test]
 fn another_cycle_is_refused_in_place_of_writing_calls() {
     let mut refused = 0;
-    for input in drawn(17).take(DRAWN) {
+    for input in drawn_of_tables(17).take(DRAWN) {
         if let Input::WriteCalls {
             net,
             note,
@@ -123,7 +123,7 @@ fn another_cycle_is_refused_in_place_of_writing_calls() {
 #[test]
 fn another_cycle_is_refused_after_the_settings() {
     let mut refused = 0;
-    for input in drawn(18).take(DRAWN) {
+    for input in drawn_of_tables(18).take(DRAWN) {
         if let Input::WritePlanned {
             net,
             note,
@@ -154,7 +154,7 @@ fn another_cycle_is_refused_after_the_settings() {
 #[test]
 fn files_read_and_written_again_are_the_same() {
     let mut read = 0;
-    for input in drawn(14).take(DRAWN) {
+    for input in drawn_of_tables(14).take(DRAWN) {
         if let Input::Read { file } = input {
             let told = Plain.read(&file);
             if told.number == 0 {
@@ -195,7 +195,7 @@ fn assert_told(kind: usize, net: Network, parts: [&[u8]; 3], out: &[u8]) {
 
 #[test]
 fn files_written_and_read_tell_what_was_written() {
-    for input in drawn(15).take(DRAWN) {
+    for input in drawn_of_tables(15).take(DRAWN) {
         match input {
             Input::WriteCalls {
                 net,

@@ -11,8 +11,10 @@ static const bolikwaru_network largest = {BOLIKWARU_MOST_CHANNELS, BOLIKWARU_MOS
 static uint8_t calls[4 * (BOLIKWARU_MOST_CALLS + 1)];
 static uint8_t settings[3 * (BOLIKWARU_MOST_CALLS + 1)];
 static uint8_t note[BOLIKWARU_MOST_NOTE + 1];
+static uint8_t table_room[BOLIKWARU_LONGEST_TABLE];
 static uint8_t settings_room[BOLIKWARU_MOST_SETTINGS];
 static uint8_t file[BOLIKWARU_LONGEST_FILE];
+static uint8_t moved_room[BOLIKWARU_MOST_MOVED_ROWS];
 
 /* Becomes 1 when an answer is not what the header says. */
 static int off = 0;
@@ -61,6 +63,22 @@ static size_t number_with_file_room(size_t room) {
     bolikwaru_plan(largest, calls, 4 * BOLIKWARU_MOST_CALLS, settings, sizeof settings);
     return bolikwaru_write_planned(largest, note, BOLIKWARU_MOST_NOTE, calls, 4 * BOLIKWARU_MOST_CALLS,
                                    settings, 3 * BOLIKWARU_MOST_CALLS, file, room).number;
+}
+
+/* The last call of the most is added. */
+static size_t number_with_added(size_t table, size_t moved) {
+    const size_t before = BOLIKWARU_MOST_CALLS - 1;
+    bolikwaru_plan(largest, calls, 4 * before, settings, sizeof settings);
+    return bolikwaru_add(largest, calls, 4 * before, settings, 3 * before, calls + 4 * before, 4, table_room, table,
+                         settings_room, sizeof settings_room, moved_room, moved).number;
+}
+
+static size_t number_with_table_room(size_t room) {
+    return number_with_added(room, sizeof moved_room);
+}
+
+static size_t number_with_moved_room(size_t room) {
+    return number_with_added(sizeof table_room, room);
 }
 
 /* The kinds that are told of a file with one call, by the writer. */
@@ -130,6 +148,9 @@ int main(void) {
     check_limit("MOST_SETTINGS", "room of", BOLIKWARU_MOST_SETTINGS, BOLIKWARU_MOST_SETTINGS - 1,
                 number_with_settings_room, 4);
     check_limit("LONGEST_FILE", "room of", BOLIKWARU_LONGEST_FILE, BOLIKWARU_LONGEST_FILE - 1, number_with_file_room, 4);
+    check_limit("LONGEST_TABLE", "room of", BOLIKWARU_LONGEST_TABLE, BOLIKWARU_LONGEST_TABLE - 1, number_with_table_room, 4);
+    check_limit("MOST_MOVED_ROWS", "room of", BOLIKWARU_MOST_MOVED_ROWS, BOLIKWARU_MOST_MOVED_ROWS - 1,
+                number_with_moved_room, 4);
     check_kind("CALLS_ONLY", kind_of_calls_only(), BOLIKWARU_CALLS_ONLY);
     check_kind("PLANNED", kind_of_planned(), BOLIKWARU_PLANNED);
     return off;

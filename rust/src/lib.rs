@@ -1,10 +1,11 @@
-//! The shelf's control for Rust: plans settings, judges settings, reads and writes plan files. The
-//! answers come from a library that is proved right for all inputs; here slices are handed over and
-//! nothing else happens. The numbers are those of the table in `README.md`; 0 is success, and any
-//! other number is a refusal, which changes no byte of any buffer.
+//! The shelf's control for Rust: plans settings, judges settings, adds and drops single calls,
+//! reads and writes plan files. The answers come from a library that is proved right for all
+//! inputs; here slices are handed over and nothing else happens. The numbers are those of the table
+//! in `README.md`; 0 is success, and any other number is a refusal, which changes no byte of any
+//! buffer.
 //!
 //! The library is for x86-64 Linux. It allocates nothing and keeps nothing between calls. A call
-//! takes stack, at most 7,504 bytes where it was measured (`docs/BENCHMARKS.md`).
+//! takes stack, at most 8,696 bytes where it was measured (`docs/BENCHMARKS.md`).
 
 /// A network: n channels of each module, m central modules, r input modules and as many output
 /// modules, and w, the cycle of both gratings, which is the number of wavelengths inside the shelf.
@@ -44,8 +45,8 @@ pub struct Planned {
     pub moved: usize,
 }
 
-/// What a plan file tells: the network's sizes, the kind (1 calls only, 2 planned), K, and where note,
-/// calls and settings begin. A refused file tells 0 for all but number and row.
+/// What a plan file tells: the network's sizes, the kind (1 calls only, 2 planned), K, and where
+/// note, calls and settings begin. A refused file tells 0 for all but number and row.
 #[derive(Clone, Copy, PartialEq, Eq, Debug)]
 #[repr(C)]
 pub struct Told {
@@ -82,6 +83,35 @@ mod library {
             settings_length: usize,
         ) -> Verdict;
 
+        pub fn bolikwaru_add(
+            net: Network,
+            calls: *const u8,
+            calls_length: usize,
+            settings: *const u8,
+            settings_length: usize,
+            call: *const u8,
+            call_length: usize,
+            calls_after: *mut u8,
+            calls_after_length: usize,
+            settings_after: *mut u8,
+            settings_after_length: usize,
+            moved_rows: *mut u8,
+            moved_rows_length: usize,
+        ) -> Planned;
+
+        pub fn bolikwaru_drop(
+            net: Network,
+            calls: *const u8,
+            calls_length: usize,
+            settings: *const u8,
+            settings_length: usize,
+            row: usize,
+            calls_after: *mut u8,
+            calls_after_length: usize,
+            settings_after: *mut u8,
+            settings_after_length: usize,
+        ) -> Verdict;
+
         pub fn bolikwaru_read(file: *const u8, file_length: usize) -> Told;
 
         pub fn bolikwaru_write_calls(
@@ -111,8 +141,8 @@ mod library {
 }
 
 // Why the calls below are sound: each function reads only the bytes of the slices it is handed, and
-// writes only those of the one that is `&mut`, which overlaps no other since it is borrowed alone;
-// it asks nothing else of its input. That is what the library's contracts say.
+// writes only those that are `&mut`, which overlap no other since each is borrowed alone; it asks
+// nothing else of its input. That is what the library's contracts say.
 
 /// Plans the calls, and writes their settings to the first 3K bytes of `settings`; the bytes beyond
 /// keep their values. Refusals are tried in the order 1, 2, 3, 4, 5, 6, 7, 8.
@@ -142,15 +172,79 @@ pub fn accept(net: Network, calls: &[u8], settings: &[u8]) -> Verdict {
     }
 }
 
+/// Adds one call to lawful settings: the table with the call in its last row, K, goes to the front
+/// of `calls_after`, settings for it to the front of `settings_after`, and the rows that had to
+/// change their central to the front of `moved_rows`, by two bytes each, the high byte first, in
+/// the order in which the chain met them. Every other row keeps its settings. Success tells K + 1
+/// and the number of rows moved; the bytes beyond what is written keep their values. Refusals are
+/// tried in the order of [`accept`] for what is given; then 2 for a call that is not 4 bytes, 3 for
+/// a table of 1,024 calls, 4 (room is for K + 1 calls, K + 1 settings and K moved rows), then 5, 6,
+/// 7 and 8 with the row K.
+pub fn add(
+    net: Network,
+    calls: &[u8],
+    settings: &[u8],
+    call: &[u8],
+    calls_after: &mut [u8],
+    settings_after: &mut [u8],
+    moved_rows: &mut [u8],
+) -> Planned {
+    unsafe {
+        library::bolikwaru_add(
+            net,
+            calls.as_ptr(),
+            calls.len(),
+            settings.as_ptr(),
+            settings.len(),
+            call.as_ptr(),
+            call.len(),
+            calls_after.as_mut_ptr(),
+            calls_after.len(),
+            settings_after.as_mut_ptr(),
+            settings_after.len(),
+            moved_rows.as_mut_ptr(),
+            moved_rows.len(),
+        )
+    }
+}
+
+/// Drops one call: the table and its settings without that row go to the front of `calls_after` and
+/// `settings_after`. Later rows close up, and no call is moved. Success tells K - 1; the bytes
+/// beyond keep their values. Refusals are tried in the order of [`accept`] for what is given; then
+/// 17 for a row that is not below K, then 4.
+pub fn drop(
+    net: Network,
+    calls: &[u8],
+    settings: &[u8],
+    row: usize,
+    calls_after: &mut [u8],
+    settings_after: &mut [u8],
+) -> Verdict {
+    unsafe {
+        library::bolikwaru_drop(
+            net,
+            calls.as_ptr(),
+            calls.len(),
+            settings.as_ptr(),
+            settings.len(),
+            row,
+            calls_after.as_mut_ptr(),
+            calls_after.len(),
+            settings_after.as_mut_ptr(),
+            settings_after.len(),
+        )
+    }
+}
+
 /// Reads a plan file; its network is `Network::of_sizes(n, m, r)` of the sizes told. Refusals are
 /// tried in the order 14, 1, 3, 15, 5, 6, 7, then for a planned file row by row 9 to 13.
 pub fn read(file: &[u8]) -> Told {
     unsafe { library::bolikwaru_read(file.as_ptr(), file.len()) }
 }
 
-/// Writes a calls-only file to the front of `out`; `settings` has no bytes. Refusals are tried in the
-/// order 1, 2, 3, 16, 4, 5, 6, 7, then 18: a file of this kind has no place for a cycle that is not
-/// the larger of r and m.
+/// Writes a calls-only file to the front of `out`; `settings` has no bytes. Refusals are tried in
+/// the order 1, 2, 3, 16, 4, 5, 6, 7, then 18: a file of this kind has no place for a cycle that is
+/// not the larger of r and m.
 pub fn write_calls(
     net: Network,
     note: &[u8],
@@ -173,8 +267,8 @@ pub fn write_calls(
     }
 }
 
-/// Writes a planned file to the front of `out`. Refusals are tried in the order 1, 2, 3, 16, 4, 5, 6,
-/// 7, then row by row 9 to 13, then 18 as above.
+/// Writes a planned file to the front of `out`. Refusals are tried in the order 1, 2, 3, 16, 4, 5,
+/// 6, 7, then row by row 9 to 13, then 18 as above.
 pub fn write_planned(
     net: Network,
     note: &[u8],

@@ -11,8 +11,8 @@ use compare::functions::{Nothing, EMPTY, LIBRARY};
 use compare::library::Library;
 use compare::stack::below_caller;
 use compare::swift::Swift;
-use compare::tables::{growing, tables, Table, Timed, TIMED};
-use compare::{Entries, LONGEST_FILE};
+use compare::tables::{growing, tables, Table, Timed, LARGEST_ROOM, TIMED};
+use compare::Entries;
 use std::time::{Duration, Instant};
 
 /// How often the two take turns on an input.
@@ -53,7 +53,7 @@ fn side(name: &str) -> &'static dyn Entries {
 
 /// Makes one call so often.
 fn repeat(entries: &dyn Entries, timed: Timed, table: &Table, times: usize) {
-    let mut room = [0; LONGEST_FILE];
+    let mut room = [0; LARGEST_ROOM];
     for _ in 0..times {
         let number = timed.1(entries, table, &mut room);
         assert_eq!(number, 0, "{} is not refused", timed.0);
@@ -63,17 +63,18 @@ fn repeat(entries: &dyn Entries, timed: Timed, table: &Table, times: usize) {
 // Times.
 
 fn show_times() {
-    println!("| call | input | K | moved | library | Rust | ratio |");
-    println!("|---|---|---|---|---|---|---|");
+    println!("| call | input | K | moved | by the last | library | Rust | ratio |");
+    println!("|---|---|---|---|---|---|---|---|");
     for table in &tables() {
         for timed in TIMED {
             let (library, swift) = time_both(timed, table);
             println!(
-                "| {} | {} | {} | {} | {} | {} | {:.2} |",
+                "| {} | {} | {} | {} | {} | {} | {} | {:.2} |",
                 timed.0,
                 table.name,
                 table.count(),
                 table.moved,
+                table.moved_by_last,
                 shown(library),
                 shown(swift),
                 ratio(library, swift)
@@ -180,7 +181,7 @@ fn show_most_stack(most: &[[usize; 2]]) {
 fn stack_below_caller(side: Side, timed: Timed, table: &Table) -> usize {
     // Once before, so that nothing is left to be done at a first call.
     repeat(side.called, timed, table, 1);
-    let mut rooms = [[0; LONGEST_FILE]; 2];
+    let mut rooms = [[0; LARGEST_ROOM]; 2];
     let [room, other_room] = &mut rooms;
     let mut call = call_of(side.called, timed, table, room);
     let mut empty = call_of(side.empty, timed, table, other_room);

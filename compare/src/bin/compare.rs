@@ -1,7 +1,9 @@
-//! Compares the proved library with the plain implementation: every small input, then COUNT drawn
-//! ones. Ends with a line that tells how many calls were compared, or stops at the first difference.
+//! Compares the proved library with the plain implementation: every small input, histories of adds
+//! and drops, then COUNT drawn inputs. Ends with a line that tells how many calls were compared, or
+//! stops at the first difference.
 
 use compare::comparison::{compare_all, compare_exhaustively, Coverage, Difference};
+use compare::history::{compare_history, histories};
 use compare::inputs::{draw, Entry, Random};
 use compare::library::Library;
 use compare::plain::Plain;
@@ -34,27 +36,37 @@ fn main() {
 fn compare_many(seed: u64, count: u64) -> Result<usize, Difference> {
     let small = compare_exhaustively(&Plain, &Library)?;
     println!("every small input: {} calls", small.total());
+    let histories = compare_histories()?;
+    println!("histories of adds and drops: {} calls", histories.total());
     let mut drawn = Coverage::default();
     let mut random = Random::seeded(seed);
     for _ in 0..count {
         drawn.add(compare_all(&Plain, &Library, &draw(&mut random))?);
     }
     println!("drawn with seed {}: {} calls", seed, drawn.total());
+    let mut all = small;
+    all.add_all(&histories);
+    all.add_all(&drawn);
     for entry in Entry::ALL {
-        println!("{:?}: {}", entry, numbers_seen(&small, &drawn, entry));
+        println!("{:?}: {}", entry, numbers_seen(&all, entry));
     }
-    Ok(small.total() + drawn.total())
+    Ok(all.total())
+}
+
+/// Compares on all histories, and answers what was seen.
+fn compare_histories() -> Result<Coverage, Difference> {
+    let mut seen = Coverage::default();
+    for (net, seed, changes) in histories() {
+        let events = compare_history(&Plain, &Library, net, seed, changes)?;
+        seen.add_all(&events.coverage);
+    }
+    Ok(seen)
 }
 
 /// The numbers that an entry answered, each with how often.
-fn numbers_seen(small: &Coverage, drawn: &Coverage, entry: Entry) -> String {
+fn numbers_seen(seen: &Coverage, entry: Entry) -> String {
     let words: Vec<String> = (0..=HIGHEST_NUMBER)
-        .map(|number| {
-            (
-                number,
-                small.count(entry, number) + drawn.count(entry, number),
-            )
-        })
+        .map(|number| (number, seen.count(entry, number)))
         .filter(|&(_, times)| times > 0)
         .map(|(number, times)| format!("{} x{}", number, times))
         .collect();

@@ -114,7 +114,7 @@ fn add_pair_before_another_cycle(list: &mut Vec<Input>, asked: Asked, first: usi
 }
 
 /// All ten pairs of 9 to 13, each of which can hold of one row, and one to five of them up to 13.
-fn sets_for_one_row() -> Vec<Vec<usize>> {
+pub fn sets_for_one_row() -> Vec<Vec<usize>> {
     let mut sets: Vec<Vec<usize>> = Vec::new();
     for first in 9..=13 {
         for second in first + 1..=13 {

@@ -5,6 +5,7 @@
 --   row-passes, rows-pass == 9 to 13 pass exactly where the row's light arrives, and no pair is used twice
 --   rows-lawful         == for a table in order: exactly where the settings are lawful
 --   accepted-exactly    == the number is 0 exactly when the settings are lawful
+--   accepted-is         == so it is 0 exactly for tables in order with lawful settings
 --   accepted-K          == and then the row is K
 --   accepts, one-answer == the answer has the guarantee, and no other answer has it
 --   never-eight         == acceptance never gives 8
@@ -22,7 +23,7 @@ use Rattle.ground.specs.BelowLaws.{once-is}
 use Rattle.shelf.specs.declared.Network.{Network}
 use Rattle.shelf.specs.Network.{cycle, hasCentral}
 use Rattle.shelf.specs.NetworkLaws.{own-wavelength-is, own-central-is}
-use Rattle.shelf.specs.Rows.{rowCount, α, β, γ, ModulesBelow}
+use Rattle.shelf.specs.Rows.{rowCount, α, β, γ}
 use Rattle.shelf.specs.Light.{Row, rowAt, Lawful}
 use Rattle.shelf.specs.Arrival.{Ports, Through, ports-through}
 use Rattle.shelf.specs.LawfulLaws.{lawful-plain}
@@ -30,7 +31,7 @@ use Rattle.calls.specs.declared.Verdict.{Verdict}
 use Rattle.calls.specs.Verdict.{success, refusedIf}
 use Rattle.calls.specs.VerdictLaws.{turn-passes, answer-passes, answer-success, turn-number, answer-number, refused-zero, seek-passes, test-number, seek-number}
 use Rattle.calls.specs.Table.{InOrder}
-use Rattle.calls.specs.TableLaws.{in-order-is, size-number, call-number}
+use Rattle.calls.specs.TableLaws.{in-order-is, own-modules, size-number, call-number}
 use Rattle.acceptance.specs.Acceptance.{hasNumbers, lightVerdict, rowVerdict, unlawfulRow, rowChecks, acceptance, Accepts}
 
 pub numbers-are : (net : Network) (x γ y : ℕ) → T (hasNumbers net x γ y) ↔ ((x < cycle net) × (y < cycle net) × T (hasCentral net γ))
@@ -88,11 +89,8 @@ module _ (net : Network) (calls settings : List ℕ) where
   rows-lawful table = Iff·trans (
     λ h. let p = rows-pass .0 (h .0) in record { whole = h .1; through = λ i l. through i l .0 (p .0 i l); inputs = p .1; outputs = p .2 },
     λ p. (rows-pass .1 ((λ i l. through i l .1 (p .through i l)), p .inputs, p .outputs), p .whole),
-  ) (Iff·symm (lawful-plain net calls settings (table .limits) own))
+  ) (Iff·symm (lawful-plain net calls settings (table .limits) (own-modules table)))
     where
-      own : ModulesBelow (α calls) (β calls) (net .r) (rowCount calls)
-      own i l = (table .inside i l .own-α, table .inside i l .own-β)
-
       through : (i : ℕ) → i < rowCount calls → Ports net (rowAt calls settings i) ↔ Through net (rowAt calls settings i)
       through i l = ports-through net (rowAt calls settings i) (table .limits) (table .inside i l .own-β)
 
@@ -107,6 +105,15 @@ module _ (net : Network) (calls settings : List ℕ) where
         let t = in-order-is net calls (length settings) 3 .1 (table, h .1) in
         (t .0, (turn-passes _ .1 (t .1, (h .0, tt)), tt)),
   ) (rows-lawful table))
+
+  pub accepted-is : (acceptance net calls settings .number ≡ 0) ↔ (InOrder net calls × Lawful net calls settings)
+  unfolding acceptance rowChecks
+  accepted-is = (λ h. (in-order h, accepted-exactly (in-order h) .0 h), λ h. accepted-exactly (h .0) .1 (h .1))
+    where
+      in-order : acceptance net calls settings .number ≡ 0 → InOrder net calls
+      in-order h =
+          let (sizes, (rows, _)) = answer-passes _ (rowCount calls) .0 h in
+          in-order-is net calls (length settings) 3 .0 (sizes, turn-passes _ .0 rows .0) .0
 
   pub accepted-K : acceptance net calls settings .number ≡ 0 → acceptance net calls settings .row ≡ rowCount calls
   unfolding acceptance success

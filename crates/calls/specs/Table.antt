@@ -4,8 +4,8 @@
 --   tooManyCalls K       == 3, K above 1,024
 --   outside net calls i  == row i has a module or a channel that the network does not have, and outsideCall net call that the
 --                           code's own record of a row has one
---   outsideRow net calls == 5, α or β ≥ r, or ω or ω' ≥ n
---   pointTwice calls outlets number == the first row whose inlet or outlet an earlier row uses
+--   outsideAt, outsideRow net calls == 5, α or β ≥ r, or ω or ω' ≥ n: of one row, and the first such
+--   pointAt, pointTwice calls outlets number == the refusal of a row whose inlet or outlet an earlier row uses, and the first such
 --   inletTwice calls, outletTwice calls == 6, inlet used by an earlier row; 7, outlet used by an earlier row
 --   sizeChecks, callChecks == 1, 2, 3 in this order; 5, 6, 7 in this order
 --   Inside net calls i   == 5 does not refuse row i
@@ -50,14 +50,20 @@ outsideCall net call =
 abbrev pub outside : Network → List ℕ → ℕ → Bool
 outside net calls i = outsideCall net (callAt calls i)
 
+abbrev pub outsideAt : Network → List ℕ → ℕ → Verdict
+outsideAt net calls i = refusedIf 5 i (outside net calls i)
+
 unfoldable pub outsideRow : Network → List ℕ → Verdict
-outsideRow net calls = seekRows (rowCount calls) (λ i. refusedIf 5 i (outside net calls i))
+outsideRow net calls = seekRows (rowCount calls) (outsideAt net calls)
 
 abbrev pub pointUsed : List ℕ → Bool → ℕ → Bool
 pointUsed calls outlets = usedEarlier (moduleOf calls outlets) (channelOf calls outlets)
 
+abbrev pub pointAt : List ℕ → Bool → ℕ → ℕ → Verdict
+pointAt calls outlets number i = refusedIf number i (pointUsed calls outlets i)
+
 unfoldable pub pointTwice : List ℕ → Bool → ℕ → Verdict
-pointTwice calls outlets number = seekRows (rowCount calls) (λ i. refusedIf number i (pointUsed calls outlets i))
+pointTwice calls outlets number = seekRows (rowCount calls) (pointAt calls outlets number)
 
 abbrev pub inletTwice : List ℕ → Verdict
 inletTwice calls = pointTwice calls false 6

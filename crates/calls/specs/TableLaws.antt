@@ -1,11 +1,13 @@
 -- What it means that a check passes, and what all of them together say: the table is in order.
 --   sizes-pass, lengths-pass, count-passes == when 1, 2 and 3 pass
 --   every-row, some-row == a check sought row by row passes where every row does, and else some row does not
+--   inside-is           == when 5 passes for one row
 --   outside-passes, points-pass == when 5, and 6 and 7 pass
 --   outside-read        == a row read from the table is one that 5 refuses where the row of its bytes is
 --   inside-points       == rows that 5 does not refuse have a place in a record of inlets and of outlets
 --   point-tells         == what marking a row's inlet or outlet tells, and what it leaves
 --   size-checks-pass, call-checks-pass, in-order-is == when all of them pass
+--   own-modules         == a table in order is one between the shelf's own modules
 --   size-number, row-number, call-number == which numbers they can tell
 use mathlib.Core.Path.{_≡_, refl}
 use mathlib.Core.Logic.{_↔_, Iff·trans}
@@ -25,7 +27,7 @@ use Rattle.shelf.specs.declared.Network.{Network}
 use Rattle.shelf.specs.declared.CallRow.{CallRow}
 use Rattle.shelf.specs.Network.{withinLimits, mostChannels, mostModules, mostCalls}
 use Rattle.shelf.specs.NetworkLaws.{limits-are}
-use Rattle.shelf.specs.Rows.{rowCount, α, ω, β, ω', moduleOf, channelOf, CallRead}
+use Rattle.shelf.specs.Rows.{rowCount, α, ω, β, ω', moduleOf, channelOf, ModulesBelow, CallRead}
 use Rattle.calls.specs.Verdict.{refusedIf, seekRows}
 use Rattle.calls.specs.VerdictLaws.{turn-passes, turn-number, test-number, seek-number, refused-zero, seek-passes}
 use Rattle.calls.specs.Table.{badSizes, badLengths, tooManyCalls, outside, outsideCall, outsideRow, pointTwice, sizeChecks, callChecks, Inside, InOrder, pointUsed, pointSlot, pointMarks, PointFits}
@@ -46,7 +48,7 @@ pub count-passes : (K : ℕ) → (tooManyCalls K .number ≡ 0) ↔ (K ≤ mostC
 unfolding tooManyCalls
 count-passes K = Iff·trans (refused-zero 2 0 _) (at-most-is K mostCalls)
 
-inside-is : (net : Network) (calls : List ℕ) (i : ℕ) → T (not (outside net calls i)) ↔ Inside net calls i
+pub inside-is : (net : Network) (calls : List ℕ) (i : ℕ) → T (not (outside net calls i)) ↔ Inside net calls i
 unfolding outsideCall
 inside-is net calls i = Iff·trans (none-is _) (
   λ (a, (b, (w, (w', _)))).
@@ -141,6 +143,9 @@ in-order-is net calls s per = (
     call-checks-pass net calls .1 (h .0 .inside, h .0 .inlets, h .0 .outlets),
   ),
 )
+
+pub own-modules : {net : Network} {calls : List ℕ} → InOrder net calls → ModulesBelow (α calls) (β calls) (net .r) (rowCount calls)
+own-modules table i l = (table .inside i l .own-α, table .inside i l .own-β)
 
 -- the numbers that these checks can tell
 module _ (P : ℕ → Type 0) (zero-holds : P 0) where

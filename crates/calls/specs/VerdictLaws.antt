@@ -6,7 +6,8 @@
 --   answer-refused, answer-passed == for the entry: a refusal of its checks is the answer, and else success
 --   answer-success       == an answer that passes is success with k
 --   turn-number, answer-number, test-number, seek-number == what holds of 0 and of the number of each holds of the number that is told
---   answer-tells-last    == a number that only the last of the checks can tell
+--   pass-last            == all pass where all before the last do, and the last
+--   answer-tells-last, answer-is-last == a number that only the last of the checks can tell; the last tells it where all before it pass
 --   refused, not-refused, passed-zero, refused-zero == a check by one test
 --   seek-next, seek-here, seek-passes == a search row by row: the first refused row is what is told
 --   seek-bad, seek-good, seek-end == the same where each row is judged by one test
@@ -119,6 +120,13 @@ module _ (P : ℕ → Type 0) where
   unfolding answer success
   answer-number vs k z h = then-number (inTurn vs) (success k) (turn-number vs z h) z
 
+pub pass-last : (vs : List Verdict) (last : Verdict) → AllPass (vs ++ last ∷ []) ↔ (AllPass vs × (last .number ≡ 0))
+pass-last [] last = (λ h. (tt, h .0), λ h. (h .1, tt))
+pass-last (v ∷ vs) last = (
+  λ h. let rest = pass-last vs last .0 (h .1) in ((h .0, rest .0), rest .1),
+  λ h. (h .0 .0, pass-last vs last .1 (h .0 .1, h .1)),
+)
+
 -- a number that no check but the last tells: all before it passed
 module _ (number k : ℕ) (last : Verdict) where
   more : (v : Verdict) (vs : List Verdict) → inTurn (v ∷ vs ++ last ∷ []) ≡ v ⨾ inTurn (vs ++ last ∷ [])
@@ -139,6 +147,14 @@ module _ (number k : ℕ) (last : Verdict) where
   answer-tells-last vs refuses others =
       then-cases (λ u. u .number ≡ number → AllPass vs × (last .number ≡ number)) (inTurn (vs ++ last ∷ [])) (success k)
       (λ z e. absurd (refuses (sym e))) (λ n. turn-tells-last vs others)
+
+  turn-is-last : (vs : List Verdict) → AllPass vs → inTurn (vs ++ last ∷ []) ≡ last
+  unfolding inTurn
+  turn-is-last [] h = refl
+  turn-is-last (v ∷ vs) h = more v vs ∙ goes-on v (inTurn (vs ++ last ∷ [])) (h .0) ∙ turn-is-last vs (h .1)
+
+  pub answer-is-last : (vs : List Verdict) → AllPass vs → (last .number ≡ 0 → ⊥) → answer (vs ++ last ∷ []) k ≡ last
+  answer-is-last vs h n = sym (answer-refused (vs ++ last ∷ []) k (sym (turn-is-last vs h)) n)
 
 -- ---- a check by one test, and a search row by row
 

@@ -1,4 +1,4 @@
-// The checks of a call table, once, for all who need them: the planner, acceptance, and the reader and writers of plan
+// The checks of a call table, once, for all who need them: the planner, acceptance, adds, and the reader and writers of plan
 // files. Each check tells a number and a row; what a check means is a definition in specs/Table.antt.
 ghost use mathlib.Core.Path.{_≡_};
 ghost use Prim.Native.Nat.{ℕ, _+_, _*_, _≤_, _<_};
@@ -79,7 +79,7 @@ fn seek_outside(net: Network, calls: &[u8]) -> Verdict
 }
 
 // Whether the call has a module or a channel that the network does not have.
-fn is_outside(net: Network, call: CallRow) -> bool
+pub fn is_outside(net: Network, call: CallRow) -> bool
     ensures { λ b. ⌜ b ≡ outsideCall net call ⌝ }
 {
     if net.r <= call.input_module {
@@ -112,7 +112,7 @@ fn seek_repeat(calls: &[u8], outlets: bool, number: usize) -> Verdict
 }
 
 // The slot of the row's inlet, or of its outlet, in a record of use.
-fn point_at(calls: &[u8], row: usize, outlets: bool) -> usize
+pub fn point_at(calls: &[u8], row: usize, outlets: bool) -> usize
     requires { ⌜ 4 * row + 4 ≤ length (now calls) ⌝ }
     ensures { λ point. ⌜ point ≡ pointSlot (now (calls .entry)) outlets row ⌝ }
 {

@@ -1,16 +1,16 @@
 -- Only the rows that are placed matter: sides that agree on them have the same colourings, the same counts and the same step.
 --   Agree f g k         == f and g have the same values below k
---   free-agree, count-agree, once-agree, fine-agree == what is free, how many calls a module has, a proper and a fine colouring
+--   free-agree, count-agree, fine-agree == what is free, how many calls a module has, and a fine colouring
 --   recorded-agree      == a record of the one is a record of the other
 --   step-agree          == a step of the choice rule
-use mathlib.Core.Path.{_≡_, refl, sym, ap, _∙_}
+use mathlib.Core.Path.{_≡_, refl, ap, _∙_}
 use mathlib.Core.Bool.{Bool, true, false, not, _&&_}
 use mathlib.Core.Option.{Option, none, some}
 use mathlib.Core.List.{List, [], _∷_, _++_}
 use Prim.Native.Nat.{ℕ, zero, suc, _<_}
 use native.Mathlib.Omega.{arith}
 use lib.Dec.{eqb}
-use Rattle.ground.specs.Below.{Once}
+use Rattle.ground.specs.BelowLaws.{once-same}
 use Rattle.choice.specs.Rule.{at, firstBelow, firstOf, rowOn, isNone, isFree, chain, exchanged, step, byChain}
 use Rattle.choice.specs.Colouring.{rowsBelow, atModule, Fine}
 use Rattle.choice.specs.Record.{Recorded}
@@ -32,16 +32,13 @@ module _ {f g : ℕ → ℕ} {k : ℕ} (same : Agree f g k) where
   pub free-agree : (γ : ℕ → ℕ) (v c : ℕ) → isFree f γ k v c ≡ isFree g γ k v c
   free-agree γ v c = ap isNone (row-agree γ v c)
 
-  pub once-agree : (γ : ℕ → ℕ) → Once f γ k → Once g γ k
-  once-agree γ once i j li lj e = once i j li lj (same i li ∙ e ∙ sym (same j lj))
-
 pub count-agree : {f g : ℕ → ℕ} (k v : ℕ) → Agree f g k → atModule f k v ≡ atModule g k v
 unfolding rowsBelow
 count-agree zero v same = refl
 count-agree (suc k) v same = λ t. elim (eqb (same k (omega arith) t) v) [ true ↦ k ∷ count-agree k v (λ i l. same i (omega arith)) t | false ↦ count-agree k v (λ i l. same i (omega arith)) t ]
 
 pub fine-agree : {α α′ β β′ γ : ℕ → ℕ} {order : List ℕ} {k : ℕ} → Agree α α′ k → Agree β β′ k → Fine α β order γ k → Fine α′ β′ order γ k
-fine-agree a b w = record { proper-α = once-agree a _ (w .proper-α); proper-β = once-agree b _ (w .proper-β); inside = w .inside }
+fine-agree a b w = record { proper-α = once-same a (λ i l. refl) (w .proper-α); proper-β = once-same b (λ i l. refl) (w .proper-β); inside = w .inside }
 
 pub recorded-agree : {side side′ : Bool → ℕ → ℕ} {γ : ℕ → ℕ} {k : ℕ} {used : List ℕ} → ((output : Bool) → Agree (side output) (side′ output) k) → Recorded side γ k used → Recorded side′ γ k used
 recorded-agree same h = record { size = h .size; says = λ output v c hv hc. h .says output v c hv hc ∙ ap not (free-agree (same output) _ v c) }

@@ -1,5 +1,6 @@
 -- Laws of rows of three bytes: what a store of a central leaves.
 --   three-more                 == a row more is three bytes more
+--   row-bytes                  == the three bytes of a row stand before the rows behind it
 --   central-at, centrals-length == the centrals of the rows, one by one, and their number
 --   modules-same               == recoloured rows have the same modules
 --   recolour                   == a store of the central of one row
@@ -11,13 +12,20 @@ use mathlib.Core.Bool.{Bool, true, false}
 use mathlib.Core.List.{List, [], _∷_, _++_}
 use Prim.Native.Nat.{ℕ, zero, suc, _+_, _*_, _≤_, _<_, suc-le-suc}
 use native.Mathlib.Omega.{arith}
-use lib.ListN.{length, getD, set, take, length-set, drop-of-length-le}
-use lib.Seq.{getD-set-other, getD-take, set-split, length-take-le, ext-getD}
+use lib.ListN.{length, getD, set, take, drop, length-set, drop-of-length-le}
+use lib.Seq.{getD-set-other, getD-take, drop-cons, set-split, length-take-le, ext-getD}
 use Rattle.choice.specs.Rule.{at}
 use Rattle.choice.specs.Rows.{moduleIn, centralsOf, Recoloured}
 
 three-more : (i d : ℕ) → 3 * suc i + d ≡ suc (suc (suc (3 * i + d)))
 three-more i d = omega arith
+
+pub row-bytes : (rows : List ℕ) (k : ℕ) → 3 * k + 3 ≤ length rows → drop (3 * k) rows ≡ getD rows (3 * k) 0 ∷ getD rows (3 * k + 1) 0 ∷ getD rows (3 * k + 2) 0 ∷ drop (3 * k + 3) rows
+row-bytes rows k l =
+    let e₁ : suc (3 * k) ≡ 3 * k + 1 = omega arith in
+    let e₂ : suc (3 * k + 1) ≡ 3 * k + 2 = omega arith in
+    let e₃ : suc (3 * k + 2) ≡ 3 * k + 3 = omega arith in
+    drop-cons rows (3 * k) 0 (omega arith) ∙ rw (e₁, drop-cons rows (3 * k + 1) 0 (omega arith), e₂, drop-cons rows (3 * k + 2) 0 (omega arith), e₃)
 
 pub central-at : (rows : List ℕ) (i : ℕ) → 3 * i + 3 ≤ length rows → at (centralsOf rows) i ≡ getD rows (3 * i + 1) 0
 unfolding centralsOf

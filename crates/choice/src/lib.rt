@@ -11,7 +11,7 @@ ghost use Rattle.shelf.specs.Network.{mostModules, mostCentrals, mostCalls, wit
 ghost use Rattle.shelf.specs.Order.{order};
 ghost use Rattle.choice.specs.Rule.{at, firstOf};
 ghost use Rattle.choice.specs.Rows.{moduleIn, centralsOf};
-ghost use Rattle.choice.specs.Record.{modulesOfBoth, moduleNumber, useSlot, recordSize, inUse, bothFree, taking, swapping, toldCentral, Recorded, Recordable};
+ghost use Rattle.choice.specs.Record.{modulesOfBoth, moduleNumber, useSlot, recordSize, nothingUsed, inUse, bothFree, taking, swapping, toldCentral, Recorded, Recordable};
 ghost use Rattle.choice.specs.Placement.{chainPlaces, besideOf, rowBeside, Mendable, Mended, Placeable, Placed, NoCommon};
 use shelf::Network;
 
@@ -181,18 +181,16 @@ fn central_at(rows: &[u8], row: usize) -> u8
     rows[3 * row + 1]
 }
 
-// The record of the first `count` rows, for any colouring of them.
-pub fn record_of(rows: &[u8], count: usize) -> [u8; RECORD]
-    requires { ⌜ Recordable (now rows) count ⌝ }
-    ensures { λ used. ⌜ Recorded (moduleIn (now (rows .entry))) (at (centralsOf (now (rows .entry)))) count used ⌝ }
+// Makes the record of no calls that of the first `count` rows, for any colouring of them.
+pub fn record_rows(used: &mut [u8; RECORD], rows: &[u8], count: usize)
+    requires { ⌜ (now used ≡ nothingUsed) × Recordable (now rows) count ⌝ }
+    ensures { λ _. ⌜ Recorded (moduleIn (now (rows .entry))) (at (centralsOf (now (rows .entry)))) count (now (used .exit)) ⌝ }
 {
-    let mut used = [0u8; RECORD];
     let mut row = 0;
     while row < count {
-        record_row(&mut used, rows, row);
+        record_row(used, rows, row);
         row += 1;
     }
-    used
 }
 
 // The record of one row more: its central is taken at both its modules.

@@ -1,7 +1,9 @@
-// The five entries for programs in C and Rust. Each has its entry's own contract, on its entry's own records, so what is proved
+// The seven entries for programs in C and Rust. Each has its entry's own contract, on its entry's own records, so what is proved
 // of an entry holds of its export, and so does every law over its guarantee. Nothing is asked of the input.
 ghost use Rattle.acceptance.specs.Acceptance.{Accepts};
 ghost use Rattle.planner.specs.Planner.{Plans};
+ghost use Rattle.adding.specs.Adding.{AddsCall};
+ghost use Rattle.dropping.specs.Dropping.{DropsCall};
 ghost use Rattle.planfile.specs.File.{callsOnly, planned};
 ghost use Rattle.planfile.specs.Reader.{Reads};
 ghost use Rattle.planwriter.specs.Writer.{Writes};
@@ -24,6 +26,45 @@ pub extern "C" fn bolikwaru_accept(net: Network, calls: &[u8], settings: &[u8]) 
     ensures { λ v. ⌜ Accepts net (now (calls .entry)) (now (settings .entry)) v ⌝ }
 {
     acceptance::accept(net, calls, settings)
+}
+
+// The table with one call more, settings for it, and the rows that were moved, at the front of the three buffers.
+#[no_mangle]
+pub extern "C" fn bolikwaru_add(
+    net: Network,
+    calls: &[u8],
+    settings: &[u8],
+    call: &[u8],
+    calls_after: &mut [u8],
+    settings_after: &mut [u8],
+    moved_rows: &mut [u8],
+) -> Planned
+    ensures { λ a. ⌜ AddsCall net (now (calls .entry)) (now (settings .entry)) (now (call .entry)) (record { calls = now («calls_after» .entry); settings = now («settings_after» .entry); moved = now («moved_rows» .entry) }) (record { calls = now («calls_after» .exit); settings = now («settings_after» .exit); moved = now («moved_rows» .exit) }) a ⌝ }
+{
+    adding::add(
+        net,
+        calls,
+        settings,
+        call,
+        calls_after,
+        settings_after,
+        moved_rows,
+    )
+}
+
+// The table and its settings without one row, at the front of the two buffers.
+#[no_mangle]
+pub extern "C" fn bolikwaru_drop(
+    net: Network,
+    calls: &[u8],
+    settings: &[u8],
+    row: usize,
+    calls_after: &mut [u8],
+    settings_after: &mut [u8],
+) -> Verdict
+    ensures { λ v. ⌜ DropsCall net (now (calls .entry)) (now (settings .entry)) row (record { calls = now («calls_after» .entry); settings = now («settings_after» .entry) }) (record { calls = now («calls_after» .exit); settings = now («settings_after» .exit) }) v ⌝ }
+{
+    dropping::drop(net, calls, settings, row, calls_after, settings_after)
 }
 
 // What a plan file tells.

@@ -1,17 +1,21 @@
 -- Laws of tests below a bound, and of pairs that no two rows have.
 --   every-is, some-is    == the tests of all rows, as types
 --   some-same            == two tests that agree on every row below k
+--   some-found, some-next == for code that tries one row after the other: one that passes, and one more that does not
 --   used-earlier-is      == the earlier row
 --   once-apart           == no two rows have a pair: no row has that of an earlier one
 --   once-is              == so no row's pair is used earlier
-use mathlib.Core.Path.{_≡_, refl, sym}
+--   once-more            == one row more
+--   once-same            == only the rows below k matter
+use mathlib.Core.Path.{_≡_, refl, sym, _∙_}
 use mathlib.Core.Logic.{_⊎_, inl, inr, _↔_, Iff·trans}
-use mathlib.Core.Bool.{Bool, not, _&&_}
-use Prim.Native.Nat.{ℕ, zero, suc, _<_}
+use mathlib.Core.Bool.{Bool, true, false, not, _&&_}
+use Prim.Native.Nat.{ℕ, zero, suc, _+_, _<_}
 use native.Mathlib.Decide.{decLt}
+use native.Mathlib.Numerals.{add-one}
 use native.Mathlib.Omega.{arith}
 use lib.Dec.{T, eqb}
-use Rattle.ground.specs.TruthLaws.{both-is, either-is, not-is}
+use Rattle.ground.specs.TruthLaws.{both-is, either-is, not-is, same-test}
 use Rattle.ground.specs.Numbers.{pair-is, below-suc, up-to}
 use Rattle.ground.specs.Below.{everyBelow, someBelow, usedEarlier, Once}
 
@@ -44,6 +48,13 @@ unfolding someBelow
 some-same zero p q h = refl
 some-same (suc k) p q h = rw (some-same k p q (λ j l. h j (omega arith)), h k (omega arith))
 
+pub some-found : (i k : ℕ) (p : ℕ → Bool) → i < k → p i ≡ true → someBelow k p ≡ true
+some-found i k p l e = same-test (someBelow k p) true (λ h. tt, λ h. some-is k p .1 (i, l, rw e tt))
+
+pub some-next : (i : ℕ) (p : ℕ → Bool) → someBelow i p ≡ false → p i ≡ false → someBelow (i + 1) p ≡ false
+unfolding someBelow
+some-next i p e f = rw (add-one i, e, f)
+
 module _ (f g : ℕ → ℕ) where
   pub used-earlier-is : (j : ℕ) → T (usedEarlier f g j) ↔ ((i : ℕ) × (i < j) × (f i ≡ f j) × (g i ≡ g j))
   unfolding usedEarlier
@@ -66,3 +77,12 @@ module _ (f g : ℕ → ℕ) where
     λ h j l i m e q. not-is (usedEarlier f g j) .0 (h j l) (used-earlier-is j .1 (i, m, e, q)),
     λ h j l. not-is (usedEarlier f g j) .1 (λ t. let w = used-earlier-is j .0 t in h j l (w .0) (w .1) (w .2) (w .3)),
   ) (once-apart k .1, once-apart k .0)
+
+  pub once-more : (k : ℕ) → Once f g (suc k) ↔ (Once f g k × T (not (usedEarlier f g k)))
+  once-more k = (
+    λ h. (λ i j li lj. h i j (omega arith) (omega arith), once-is (suc k) .1 h k (omega arith)),
+    λ h. once-is (suc k) .0 (up-to (λ j. T (not (usedEarlier f g j))) (once-is k .1 (h .0)) (h .1)),
+  )
+
+pub once-same : {f f′ g g′ : ℕ → ℕ} {k : ℕ} → ((i : ℕ) → i < k → f i ≡ f′ i) → ((i : ℕ) → i < k → g i ≡ g′ i) → Once f g k → Once f′ g′ k
+once-same a b h i j li lj e q = h i j li lj (a i li ∙ e ∙ sym (a j lj)) (b i li ∙ q ∙ sym (b j lj))

@@ -5,7 +5,9 @@
 --   take-part, part-middle == what stands before a part, with the part behind it; and the part between two others
 --   listed i k bytes      == k bytes from i on, one by one, and listed-all that they are all that there are
 --   adds-none, adds-byte, adds-both == nothing written, one byte written, and one part written behind the other
---   adds-length, adds-front, adds-same == the buffer keeps its length; what is written from 0 on stands at its front; equal bytes
+--   take-front            == the bytes at a buffer's front, taken from it again
+--   adds-length, adds-front, adds-taken, adds-same == the buffer keeps its length; what is written from 0 on stands at its front, and is taken
+--                            from there again; equal bytes
 use mathlib.Core.Path.{_≡_, refl, sym, ap, subst, _∙_}
 use mathlib.Core.List.{List, [], _∷_, _++_, append-assoc}
 use Prim.Native.Nat.{ℕ, zero, suc, _+_, _-_, _*_, _≤_, _<_}
@@ -79,9 +81,16 @@ adds-byte buffer at byte h =
 pub adds-length : {before after : List ℕ} {at next : ℕ} {bytes : List ℕ} → Adds before after at next bytes → length after ≡ length before
 adds-length a = let f = a .fits in rw (a .is-there) (simp (length-append, length-take, length-drop) (omega arith))
 
+pub take-front : (buffer bytes : List ℕ) (n : ℕ) → length bytes ≡ n → take n (front buffer bytes) ≡ bytes
+unfolding front
+take-front buffer bytes n e = take-at bytes (drop (length bytes) buffer) n e
+
 pub adds-front : {before after : List ℕ} {next : ℕ} {bytes : List ℕ} → Adds before after 0 next bytes → after ≡ front before bytes
 unfolding front
 adds-front {bytes = bytes} a = a .is-there ∙ rw (zero-add (length bytes))
+
+pub adds-taken : {before after : List ℕ} {next : ℕ} {bytes : List ℕ} → Adds before after 0 next bytes → take next after ≡ bytes
+adds-taken {before} {after} {next} {bytes} a = ap (take next) (adds-front a) ∙ take-front before bytes next (omega (arith, a .is-next))
 
 pub adds-same : {before after : List ℕ} {at next : ℕ} {bytes other : List ℕ} → Adds before after at next bytes → bytes ≡ other → Adds before after at next other
 adds-same {before} {after} {at} {next} a e = subst (λ (b : List ℕ). Adds before after at next b) e a

@@ -1,5 +1,6 @@
 -- Laws of a record of use.
 --   length-marks        == the record keeps its places
+--   used-by-slot        == slots tell what pairs tell
 --   slot-room           == a row's slot has its place there
 --   mark-tells          == what marking a row's slot tells, and what it leaves
 use mathlib.Core.Path.{_≡_, sym, ap, _∙_}
@@ -37,7 +38,7 @@ module _ (top w : ℕ) (f g : ℕ → ℕ) where
 
   module _ (i : ℕ) where
     -- with g below the width, slots tell what the pairs tell
-    used-by-slot : ((j : ℕ) → j < suc i → g j < w) → someBelow i (λ j. eqb (slot w f g j) (slot w f g i)) ≡ usedEarlier f g i
+    pub used-by-slot : ((j : ℕ) → j < suc i → g j < w) → someBelow i (λ j. eqb (slot w f g j) (slot w f g i)) ≡ usedEarlier f g i
     unfolding slot usedEarlier
     used-by-slot h = some-same i _ _ (λ j l. same-test (eqb (f j * w + g j) (f i * w + g i)) (eqb (f j) (f i) && eqb (g j) (g i)) (pair j l))
       where

@@ -2,6 +2,7 @@
 --   both-is, either-is, not-is, neither-is, holds-is == two tests joined, a test that fails, and one that does not fail
 --   all-is, any-is, none-is == tests in a list, as types
 --   same-test            == two tests that hold together are the same test
+--   test-fails, test-holds == a test that fails is false, and one that does not fail is true
 use mathlib.Core.Path.{_≡_, refl}
 use mathlib.Core.Logic.{_⊎_, inl, inr, _↔_, Iff·trans, Iff·rfl, Iff·and}
 use mathlib.Core.Bool.{Bool, true, false, not, _&&_, _||_}
@@ -52,3 +53,11 @@ same-test true true h = refl
 same-test true false h = absurd (h .0 tt)
 same-test false true h = absurd (h .1 tt)
 same-test false false h = refl
+
+pub test-fails : (t : Bool) → T (not t) → t ≡ false
+test-fails true h = absurd h
+test-fails false h = refl
+
+pub test-holds : (t : Bool) → (T (not t) → ⊥) → t ≡ true
+test-holds true h = refl
+test-holds false h = absurd (h tt)

@@ -3,6 +3,7 @@ pub mod SettingsLaws
 pub mod Overfull
 pub mod Owed
 pub mod Steps
+pub mod Continuing
 pub mod Tally
 pub mod Placing
 pub mod Answers

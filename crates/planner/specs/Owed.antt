@@ -3,6 +3,8 @@
 --   checks-pass         == each of its checks passes exactly for a table in order, with room, where no row overfills a module
 --   verdict-passes      == so does the planner's verdict
 --   verdict-told-eight, verdict-eight == it tells 8 exactly where only the last check refuses
+--   lawful-colours, lawful-fits, overfull-unlawful == the centrals of lawful settings are a fine colouring, so a table that has lawful settings overfills no
+--                          module, and one that overfills a module has none
 --   plans, one-answer   == answer and buffer have the guarantee, and no others have it
 use mathlib.Core.Path.{_≡_, refl, sym, ap, _∙_}
 use mathlib.Core.Logic.{_⊎_, inl, inr, _↔_, Iff·trans, ⊎-elim}
@@ -15,20 +17,22 @@ use lib.Seq.{take-at}
 use borrow.Author.Tests.{eq-eqb, ne-eqb}
 use Rattle.ground.specs.Numbers.{at-most-is}
 use Rattle.shelf.specs.declared.Network.{Network}
-use Rattle.shelf.specs.Rows.{rowCount, α, β, γ, ModulesBelow}
+use Rattle.shelf.specs.Rows.{rowCount, α, β, γ}
 use Rattle.shelf.specs.Light.{Lawful}
 use Rattle.shelf.specs.Order.{order}
 use Rattle.shelf.specs.OrderLaws.{order-distinct}
 use Rattle.calls.specs.declared.Verdict.{Verdict}
 use Rattle.calls.specs.Verdict.{success, AllPass}
-use Rattle.calls.specs.VerdictLaws.{answer-passes, answer-success, answer-refused, answer-tells-last, turn-goes-on, turn-last, refused-zero, test-number}
+use Rattle.calls.specs.VerdictLaws.{answer-passes, answer-success, answer-tells-last, answer-is-last, refused-zero, test-number}
 use Rattle.calls.specs.Table.{sizeChecks, callChecks, InOrder}
-use Rattle.calls.specs.TableLaws.{in-order-is, size-number, row-number, call-number}
+use Rattle.calls.specs.TableLaws.{in-order-is, own-modules, size-number, row-number, call-number}
 use Rattle.choice.specs.Rule.{at}
-use Rattle.choice.specs.PlanLaws.{plan-fine, fits-all}
+use Rattle.choice.specs.Colouring.{Fine}
+use Rattle.choice.specs.PlanLaws.{fits-all}
 use Rattle.planner.specs.declared.Planned.{Planned}
 use Rattle.planner.specs.Planner.{overfull, overfullRow, roomRefused, plannerChecks, plannerVerdict, chosen, plannedSettings, planAnswer, planBuffer, NoneOverfull, SomeOverfull, Plans}
 use Rattle.planner.specs.Steps.{AllFit}
+use Rattle.planner.specs.Continuing.{plan-fine}
 use Rattle.planner.specs.SettingsLaws.{planned-length, settings-lawful, lawful-fine}
 use Rattle.planner.specs.Overfull.{overfull-passes, none-overfull, some-overfull}
 
@@ -72,13 +76,25 @@ module _ (net : Network) (calls : List ℕ) (room : ℕ) where
   unfolding plannerVerdict plannerChecks
   verdict-eight table l e =
       let t = in-order-is net calls 0 0 .1 (table, omega arith) in
-      ap (λ (v : Verdict). v .number) (sym (answer-refused _ (rowCount calls) (turn-goes-on _ _ refl (t .0) (turn-goes-on _ _ refl (room-passes calls room .1 l) (turn-goes-on _ _ refl (t .1) (turn-last refl)))) (λ z. omega arith)))
+      ap (λ (v : Verdict). v .number)
+      (answer-is-last 8 (rowCount calls) (overfullRow net calls) (sizeChecks net (length calls) 0 0 ∷ roomRefused calls room ∷ callChecks net calls ∷ []) (t .0, (room-passes calls room .1 l, (t .1, tt))) (λ z. omega arith))
       ∙ e
 
 -- 8 is all that the search for overfull rows can tell
 overfull-number : (net : Network) (calls : List ℕ) → (overfullRow net calls .number ≡ 0) ⊎ (overfullRow net calls .number ≡ 8)
 unfolding overfullRow
 overfull-number net calls = row-number (λ n. (n ≡ 0) ⊎ (n ≡ 8)) (inl refl) 8 (rowCount calls) (overfull net calls) (inr refl)
+
+-- the centrals of lawful settings colour the rows, so no row overfills a module
+pub lawful-colours : {net : Network} {calls : List ℕ} → InOrder net calls → (settings : List ℕ) → Lawful net calls settings → Fine (α calls) (β calls) (order net) (γ settings) (rowCount calls)
+lawful-colours {net} {calls} table settings h = lawful-fine net calls settings (table .limits) (own-modules table) h
+
+pub lawful-fits : {net : Network} {calls : List ℕ} → InOrder net calls → (settings : List ℕ) → Lawful net calls settings → AllFit net calls
+lawful-fits {net} {calls} table settings h = fits-all (α calls) (β calls) (order net) (γ settings) (rowCount calls) (lawful-colours table settings h)
+
+-- "and then no settings exist that would be accepted"
+pub overfull-unlawful : {net : Network} {calls : List ℕ} → InOrder net calls → SomeOverfull net calls → (settings : List ℕ) → Lawful net calls settings → ⊥
+overfull-unlawful {net} {calls} table over settings h = omega (arith, none-overfull net calls .0 (lawful-fits table settings h) (over .0) (over .1), over .2)
 
 module _ (net : Network) (calls before after : List ℕ) (a : Planned) (answer : a ≡ planAnswer net calls (length before)) (buffer : after ≡ planBuffer net calls before) where
   number-is : a .number ≡ plannerVerdict net calls (length before) .number
@@ -89,9 +105,6 @@ module _ (net : Network) (calls before after : List ℕ) (a : Planned) (answer :
   unfolding planBuffer
   written z = buffer ∙ rw (eq-eqb _ 0 (sym number-is ∙ z))
 
-  own : InOrder net calls → ModulesBelow (α calls) (β calls) (net .r) (rowCount calls)
-  own table i l = (table .inside i l .own-α, table .inside i l .own-β)
-
   owed : InOrder net calls → 3 * rowCount calls ≤ length before → NoneOverfull net calls → (a .number ≡ 0) × Lawful net calls (take (3 * rowCount calls) after)
   unfolding chosen plannedSettings
   owed table room none-over =
@@ -100,7 +113,7 @@ module _ (net : Network) (calls before after : List ℕ) (a : Planned) (answer :
       let fine = plan-fine (α calls) (β calls) (order net) (order-distinct net) (rowCount calls) fits in (
         z,
         rw (written z, take-at (plannedSettings net calls) (drop (3 * rowCount calls) before) (3 * rowCount calls) (planned-length net calls))
-            (settings-lawful net calls (at (chosen net calls .centrals)) (table .limits) (own table) fine),
+            (settings-lawful net calls (at (chosen net calls .centrals)) (table .limits) (own-modules table) fine),
       )
 
   refused : InOrder net calls → 3 * rowCount calls ≤ length before → SomeOverfull net calls → a .number ≡ 8
@@ -108,11 +121,6 @@ module _ (net : Network) (calls before after : List ℕ) (a : Planned) (answer :
       (λ z. absurd (omega (arith, none-overfull net calls .0 (overfull-passes net calls .0 z) (over .0) (over .1), over .2)))
       (λ e. number-is ∙ verdict-eight net calls (length before) table room e)
       (overfull-number net calls)
-
-  impossible : InOrder net calls → SomeOverfull net calls → (settings : List ℕ) → Lawful net calls settings → ⊥
-  impossible table over settings h =
-      let fits = fits-all (α calls) (β calls) (order net) (γ settings) (rowCount calls) (lawful-fine net calls settings (table .limits) (own table) h) in
-      omega (arith, none-overfull net calls .0 fits (over .0) (over .1), over .2)
 
   eight : (a .number ≡ 8) ↔ (InOrder net calls × (3 * rowCount calls ≤ length before) × SomeOverfull net calls)
   eight = (
@@ -131,7 +139,7 @@ module _ (net : Network) (calls before after : List ℕ) (a : Planned) (answer :
   tells-K z = ap (λ (p : Planned). p .row) answer ∙ ap (λ (v : Verdict). v .row) (answer-success (plannerChecks net calls (length before)) (rowCount calls) (sym number-is ∙ z))
 
   pub plans : Plans net calls before after a
-  plans = record { answer = answer; buffer = buffer; owed = owed; eight = eight; impossible = impossible; unchanged = unchanged; tells-K = tells-K }
+  plans = record { answer = answer; buffer = buffer; owed = owed; eight = eight; impossible = overfull-unlawful; unchanged = unchanged; tells-K = tells-K }
 
 -- two answers that satisfy the guarantee are the same, and so are the buffers
 pub one-answer : (net : Network) (calls before after after′ : List ℕ) (a a′ : Planned) → Plans net calls before after a → Plans net calls before after′ a′ → (a ≡ a′) × (after ≡ after′)

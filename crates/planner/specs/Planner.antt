@@ -3,7 +3,7 @@
 --   settingsRows W α β γ k      == the settings of the rows below k, with gratings of cycle W
 --   overfull net calls i        == with row i, its input module or its output module has more calls than there are centrals
 --   roomRefused calls room      == 4, output buffer too short
---   overfullRow net calls       == 8, sought over the whole table
+--   overfullAt, overfullRow net calls == 8, of one row, and sought over the whole table
 --   plannerChecks, plannerVerdict net calls room == the checks in their order; number and row
 --   chosen net calls            == the centrals and the chains, by the choice rule
 --   plannedSettings, plannedMoved net calls == the settings, and how many calls were moved
@@ -47,8 +47,11 @@ overfull net calls i = any (
     ∷ []
     )
 
+abbrev pub overfullAt : Network → List ℕ → ℕ → Verdict
+overfullAt net calls i = refusedIf 8 i (overfull net calls i)
+
 unfoldable pub overfullRow : Network → List ℕ → Verdict
-overfullRow net calls = seekRows (rowCount calls) (λ i. refusedIf 8 i (overfull net calls i))
+overfullRow net calls = seekRows (rowCount calls) (overfullAt net calls)
 
 -- 4: "output buffer too short"
 unfoldable pub roomRefused : List ℕ → ℕ → Verdict

@@ -1,4 +1,5 @@
 -- The settings rows that the planner writes, read back, and that they are lawful where no module uses a central twice.
+--   central-of          == the central of a settings row, among the centrals of all
 --   settings-length, planned-length == they have three bytes for each row
 --   settings-x, settings-γ, settings-y == a row read back
 --   written-byte, passable-now, written-length, written-next, written-all == the rows written so far, one more of them, and what stands behind
@@ -14,7 +15,7 @@ use native.Mathlib.Omega.{arith}
 use native.Mathlib.Numerals.{add-one}
 use lib.Dec.{T}
 use lib.ListN.{length, getD, set, drop, length-append, length-drop, drop-of-length-le, List·getD-append}
-use lib.Seq.{getD-append-add, getD-drop, drop-cons, set-at}
+use lib.Seq.{getD-append-add, getD-drop, set-at}
 use Rattle.ground.specs.Below.{Once}
 use Rattle.ground.specs.Numbers.{below-suc}
 use Rattle.grating.specs.Grating.{wavelengthBetween}
@@ -28,10 +29,14 @@ use Rattle.shelf.specs.OrderLaws.{order-own}
 use Rattle.choice.specs.Rule.{at}
 use Rattle.choice.specs.Colouring.{Fine}
 use Rattle.choice.specs.Rows.{moduleIn, centralsOf}
-use Rattle.choice.specs.RowsLaws.{central-at}
+use Rattle.choice.specs.RowsLaws.{row-bytes, central-at}
 use Rattle.choice.specs.Agree.{Agree}
 use Rattle.planner.specs.Planner.{settingsRow, settingsRows, chosen, plannedSettings}
 use Rattle.planner.specs.Steps.{Passable}
+
+pub central-of : (settings : List ℕ) (K : ℕ) → length settings ≡ 3 * K → (i : ℕ) → i < K → at (centralsOf settings) i ≡ γ settings i
+unfolding γ
+central-of settings K whole i l = central-at settings i (omega arith)
 
 module _ (W : ℕ) (α β g : ℕ → ℕ) where
   pub settings-length : (k : ℕ) → length (settingsRows W α β g k) ≡ 3 * k
@@ -91,12 +96,7 @@ module _ (W : ℕ) (rows : List ℕ) where
 
   three : (k : ℕ) → 3 * k + 3 ≤ length rows → drop (3 * k) rows ≡ α₀ k ∷ γ₀ k ∷ β₀ k ∷ drop (3 * (k + 1)) rows
   unfolding moduleIn
-  three k l =
-      let e₁ : suc (3 * k) ≡ 3 * k + 1 = omega arith in
-      let e₂ : suc (3 * k + 1) ≡ 3 * k + 2 = omega arith in
-      let e₃ : suc (3 * k + 2) ≡ 3 * (k + 1) = omega arith in
-      drop-cons rows (3 * k) 0 (omega arith)
-      ∙ rw (e₁, drop-cons rows (3 * k + 1) 0 (omega arith), e₂, drop-cons rows (3 * k + 2) 0 (omega arith), e₃, central-at rows k l)
+  three k l = let next : 3 * (k + 1) ≡ 3 * k + 3 = omega arith in row-bytes rows k l ∙ rw (next, central-at rows k l)
 
   pub written-byte : (k j : ℕ) (now : List ℕ) → now ≡ settingsRows W α₀ β₀ γ₀ k ++ drop (3 * k) rows → getD now (3 * k + j) 0 ≡ getD rows (3 * k + j) 0
   written-byte k j now e =

@@ -13,7 +13,7 @@ ghost use Rattle.choice.specs.Rule.{at};
 ghost use Rattle.choice.specs.Rows.{moduleIn, centralsOf};
 ghost use Rattle.choice.specs.Record.{modulesOfBoth};
 ghost use Rattle.planner.specs.Planner.{settingsRows, overfullRow, plannedSettings, plannedMoved, Plans};
-ghost use Rattle.planner.specs.Steps.{refusals, Counted, Ready, AllPlaced, Passable, Writable};
+ghost use Rattle.planner.specs.Steps.{refusals, Counted, Plannable, Ready, AllPlaced, Passable, Writable};
 use calls::Verdict;
 use shelf::CallRow;
 use shelf::Network;
@@ -56,11 +56,13 @@ pub fn plan(net: Network, calls: &[u8], settings: &mut [u8]) -> Planned
 // Places the calls and writes their settings, and tells how many calls were moved. Until the wavelengths are known, the rows
 // hold the modules in their place.
 fn place_and_write(net: Network, calls: &[u8], rows: &mut [u8]) -> usize
-    requires { ⌜ Ready net (now calls) (now rows) ⌝ }
+    requires { ⌜ Plannable net (now calls) (now rows) ⌝ }
     ensures settings { λ moved. ⌜ now (rows .exit) ≡ plannedSettings net (now (calls .entry)) ⌝ }
     ensures moved { λ moved. ⌜ moved ≡ plannedMoved net (now (calls .entry)) ⌝ }
 {
-    let moved = place_all(net, calls, rows);
+    let mut used = [0u8; choice::RECORD];
+    let mut chain = [0u16; choice::CHAIN];
+    let moved = place_rest(net, calls, rows, 0, &mut used, &mut chain);
     write_wavelengths(net.cycle(), rows);
     moved
 }
@@ -117,28 +119,34 @@ fn one_more(tally: &mut [u8; MODULES], module: usize) -> usize
     more as usize
 }
 
-// Places all calls in row order, and tells how many were moved. `rows` has three bytes for each call: its input module, its
-// central and its output module.
-fn place_all(net: Network, calls: &[u8], rows: &mut [u8]) -> usize
-    requires { ⌜ Ready net (now calls) (now rows) ⌝ }
-    ensures { λ moved. ⌜ AllPlaced net (now (calls .entry)) (now (rows .entry)) (now (rows .exit)) moved ⌝ }
+// Places the calls of the rows from `first` on, in row order, and tells how many calls were moved. `rows` has three bytes for each
+// call: its input module, its central and its output module. What is asked is any proper colouring of the rows before `first`, with
+// its record, and room for the others. `chain` tells the rows of the last chain, as a placement leaves them there.
+pub fn place_rest(
+    net: Network,
+    calls: &[u8],
+    rows: &mut [u8],
+    first: usize,
+    used: &mut [u8; choice::RECORD],
+    chain: &mut [u16; choice::CHAIN],
+) -> usize
+    requires { ⌜ Ready net (now calls) (now rows) first (now used) (now chain) ⌝ }
+    ensures { λ moved. ⌜ AllPlaced net (now (calls .entry)) (now (rows .entry)) (now (rows .exit)) first (now (chain .exit)) moved ⌝ }
 {
     let count = calls.len() / 4;
-    let mut used = choice::record_of(rows, 0);
-    let mut chain = [0u16; choice::CHAIN];
     let mut moved = 0;
-    let mut placed = 0;
+    let mut placed = first;
     while placed < count {
         enter_call(calls, rows, placed);
         let end = 3 * placed + 3;
-        moved += choice::place(net, &mut rows[..end], placed, &mut used, &mut chain);
+        moved += choice::place(net, &mut rows[..end], placed, used, chain);
         placed += 1;
     }
     moved
 }
 
 // The modules of a call stand in its row.
-fn enter_call(calls: &[u8], rows: &mut [u8], row: usize)
+pub fn enter_call(calls: &[u8], rows: &mut [u8], row: usize)
     requires { ⌜ (4 * row + 4 ≤ length (now calls)) × (3 * row + 3 ≤ length (now rows)) ⌝ }
     ensures { λ _. ⌜ now (rows .exit) ≡ set (set (now (rows .entry)) (3 * row) (α (now (calls .entry)) row)) (3 * row + 2) (β (now (calls .entry)) row) ⌝ }
 {
@@ -147,7 +155,7 @@ fn enter_call(calls: &[u8], rows: &mut [u8], row: usize)
 }
 
 // In each row the wavelengths that lead to its central and from it take the place of its modules.
-fn write_wavelengths(cycle: usize, rows: &mut [u8])
+pub fn write_wavelengths(cycle: usize, rows: &mut [u8])
     requires { ⌜ Writable cycle (now rows) ⌝ }
     ensures { λ _. ⌜ now (rows .exit) ≡ settingsRows cycle (moduleIn (now (rows .entry)) false) (moduleIn (now (rows .entry)) true) (at (centralsOf (now (rows .entry)))) (length (now (rows .entry)) / 3) ⌝ }
 {

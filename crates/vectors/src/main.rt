@@ -1,14 +1,16 @@
 // Stored inputs, answered by the compiled entries: what is printed is compared with the answers of an independent
-// implementation. An input has a head of 41 bytes: the entry by one byte, n, m, r and the cycle by eight bytes each, then the lengths
-// of note, calls, settings and room by two bytes each, all with the high byte first. The bytes of these four follow. A file to be read
-// or listed stands in the place of the calls. For each input a line is printed: the numbers that the entry answers, then each byte of
-// the room as the entry left it. Of a listing the numbers are the length of the text and how many bytes beyond it were changed in
-// the buffer, and the bytes are those of the text.
+// implementation. An input has a head of 53 bytes: the entry by one byte; n, m, r, the cycle and a row by eight bytes each; then the
+// lengths of note, calls, settings and of three rooms by two bytes each, all with the high byte first. The bytes of these six follow.
+// A file to be read or listed stands in the place of the calls, a call to be added in that of the note. For each input a line is
+// printed: the numbers that the entry answers, then each byte of the rooms as the entry left them. Of a listing the numbers are the
+// length of the text and how many bytes beyond it were changed in the buffer, and the bytes are those of the text.
 ghost use Prim.Native.Nat.{_+_, _≤_};
+ghost use lib.Dec.{T};
 ghost use lib.ListN.{length};
 use calls::Verdict;
 use libc::STDIN_FILENO;
 use libc::STDOUT_FILENO;
+use planner::Planned;
 use shelf::Network;
 
 // The entries, by the first byte of an input. Any other byte is a planned file to be written.
@@ -22,7 +24,12 @@ const WRITE_CALLS: u8 = 3;
 
 const LIST: u8 = 5;
 
-// Where in a head n, m, r, the cycle and the lengths of note, calls, settings and room stand, and the bytes of the whole head.
+const ADD: u8 = 6;
+
+const DROP: u8 = 7;
+
+// Where in a head n, m, r, the cycle, the row and the lengths of note, calls, settings and rooms stand, and the bytes of the whole
+// head.
 const N_AT: usize = 1;
 
 const M_AT: usize = 9;
@@ -31,15 +38,21 @@ const R_AT: usize = 17;
 
 const W_AT: usize = 25;
 
-const NOTE_AT: usize = 33;
+const ROW_AT: usize = 33;
 
-const CALLS_AT: usize = 35;
+const NOTE_AT: usize = 41;
 
-const SETTINGS_AT: usize = 37;
+const CALLS_AT: usize = 43;
 
-const ROOM_AT: usize = 39;
+const SETTINGS_AT: usize = 45;
 
-const HEAD: usize = 41;
+const FIRST_AT: usize = 47;
+
+const SECOND_AT: usize = 49;
+
+const THIRD_AT: usize = 51;
+
+const HEAD: usize = 53;
 
 // How many numbers two bytes can tell.
 const PAIRS: usize = 65536;
@@ -52,10 +65,12 @@ const MOST_INPUTS: usize = 65536;
 
 fn main() {
     let mut parts = io::large_buffer();
-    let mut room = io::large_buffer();
+    let mut first = io::large_buffer();
+    let mut second = io::large_buffer();
+    let mut third = io::large_buffer();
     let mut left = MOST_INPUTS;
     while left > 0 {
-        left = if answer_next(&mut parts, &mut room) {
+        left = if answer_next(&mut parts, &mut first, &mut second, &mut third) {
             left - 1
         } else {
             0
@@ -63,8 +78,8 @@ fn main() {
     }
 }
 
-// Answers the next input; false where none is left, or none that the two buffers have room for.
-fn answer_next(parts: &mut [u8], room: &mut [u8]) -> bool {
+// Answers the next input; false where none is left, or none that the buffers have room for.
+fn answer_next(parts: &mut [u8], first: &mut [u8], second: &mut [u8], third: &mut [u8]) -> bool {
     let mut head = [0u8; HEAD];
     if !fill(&mut head) {
         return false;
@@ -72,36 +87,63 @@ fn answer_next(parts: &mut [u8], room: &mut [u8]) -> bool {
     let note_end = ground::number_at(&head, NOTE_AT);
     let calls_end = note_end + ground::number_at(&head, CALLS_AT);
     let settings_end = calls_end + ground::number_at(&head, SETTINGS_AT);
-    let room_end = ground::number_at(&head, ROOM_AT);
-    if parts.len() < settings_end {
+    if !fill_front(parts, settings_end) {
         return false;
     }
-    if room.len() < room_end {
-        return false;
-    }
-    if !fill(&mut parts[..settings_end]) {
-        return false;
-    }
-    let lent = &mut room[..room_end];
-    if !fill(lent) {
-        return false;
-    }
-    let net = Network {
-        n: size_at(&head, N_AT),
-        m: size_at(&head, M_AT),
-        r: size_at(&head, R_AT),
-        w: size_at(&head, W_AT),
-    };
     let whole = &parts[..];
-    answer(
-        head[0],
-        net,
+    answer_with_rooms(
+        &head,
         &whole[..note_end],
         &whole[note_end..calls_end],
         &whole[calls_end..settings_end],
-        lent,
+        first,
+        second,
+        third,
+    )
+}
+
+// The same, when head and parts are read and the rooms are still to come.
+fn answer_with_rooms(
+    head: &[u8; HEAD],
+    note: &[u8],
+    calls: &[u8],
+    settings: &[u8],
+    first: &mut [u8],
+    second: &mut [u8],
+    third: &mut [u8],
+) -> bool {
+    let first_end = ground::number_at(head, FIRST_AT);
+    if !fill_front(first, first_end) {
+        return false;
+    }
+    let second_end = ground::number_at(head, SECOND_AT);
+    if !fill_front(second, second_end) {
+        return false;
+    }
+    let third_end = ground::number_at(head, THIRD_AT);
+    if !fill_front(third, third_end) {
+        return false;
+    }
+    answer(
+        head,
+        note,
+        calls,
+        settings,
+        &mut first[..first_end],
+        &mut second[..second_end],
+        &mut third[..third_end],
     );
     true
+}
+
+// Whether the standard input filled the front of the buffer, up to `end`.
+fn fill_front(buffer: &mut [u8], end: usize) -> bool
+    ensures { λ filled. ⌜ (T filled → end ≤ length (now (buffer .exit))) ⌝ }
+{
+    if buffer.len() < end {
+        return false;
+    }
+    fill(&mut buffer[..end])
 }
 
 // Whether the standard input filled all of the buffer.
@@ -120,38 +162,70 @@ fn size_at(bytes: &[u8], at: usize) -> usize
     ((highest * PAIRS + high) * PAIRS + low) * PAIRS + lowest
 }
 
-// Lets the entry answer, and prints the line.
-fn answer(entry: u8, net: Network, note: &[u8], calls: &[u8], settings: &[u8], room: &mut [u8]) {
+// Lets the entry of a head answer, and prints the line.
+fn answer(
+    head: &[u8; HEAD],
+    note: &[u8],
+    calls: &[u8],
+    settings: &[u8],
+    first: &mut [u8],
+    second: &mut [u8],
+    third: &mut [u8],
+) {
+    let net = Network {
+        n: size_at(head, N_AT),
+        m: size_at(head, M_AT),
+        r: size_at(head, R_AT),
+        w: size_at(head, W_AT),
+    };
+    let entry = head[0];
+    if entry == ADD {
+        show_planned(adding::add(net, calls, settings, note, first, second, third));
+        return end_line(first, second, third);
+    }
+    if entry == DROP {
+        let row = size_at(head, ROW_AT);
+        show_verdict(dropping::drop(net, calls, settings, row, first, second));
+        return end_line(first, second, third);
+    }
+    answer_table(entry, net, note, calls, settings, first);
+    end_line(first, second, third);
+}
+
+// The same for an entry that is lent one buffer at most, up to the bytes of its room.
+fn answer_table(
+    entry: u8,
+    net: Network,
+    note: &[u8],
+    calls: &[u8],
+    settings: &[u8],
+    room: &mut [u8],
+) {
     if entry == PLAN {
-        show_planned(planner::plan(net, calls, room));
-        return end_line(room);
+        return show_planned(planner::plan(net, calls, room));
     }
     if entry == ACCEPT {
-        show_verdict(acceptance::accept(net, calls, settings));
-        return end_line(room);
+        return show_verdict(acceptance::accept(net, calls, settings));
     }
     if entry == READ {
-        show_told(planfile::read(calls));
-        return end_line(room);
+        return show_told(planfile::read(calls));
     }
     if entry == WRITE_CALLS {
-        show_verdict(planwriter::write_calls(net, note, calls, settings, room));
-        return end_line(room);
+        return show_verdict(planwriter::write_calls(net, note, calls, settings, room));
     }
     if entry == LIST {
         return show_listing(calls);
     }
     show_verdict(planwriter::write_planned(net, note, calls, settings, room));
-    end_line(room);
 }
 
-// Prints the line of a listing.
+// Prints the numbers and the text of a listing.
 fn show_listing(file: &[u8]) {
     let mut text = [FILLED; lines::LONGEST_LISTING];
     let size = lines::list(file, &mut text);
     show(size);
     show(changed(&text[size..]));
-    end_line(&text[..size]);
+    show_bytes(&text[..size]);
 }
 
 // How many bytes are not as the buffer of a listing was filled.
@@ -168,7 +242,7 @@ fn changed(bytes: &[u8]) -> usize {
 }
 
 // Prints number, row and moved count.
-fn show_planned(planned: planner::Planned) {
+fn show_planned(planned: Planned) {
     show(planned.number);
     show(planned.row);
     show(planned.moved);
@@ -200,14 +274,21 @@ fn show(number: usize) {
     io::write_all(STDOUT_FILENO, b" ");
 }
 
-// Prints bytes, each by two hexadecimal digits, and ends the line.
-fn end_line(bytes: &[u8]) {
+// Prints the bytes of the rooms, and ends the line.
+fn end_line(first: &[u8], second: &[u8], third: &[u8]) {
+    show_bytes(first);
+    show_bytes(second);
+    show_bytes(third);
+    io::write_all(STDOUT_FILENO, b"\n");
+}
+
+// Prints bytes, each by two hexadecimal digits.
+fn show_bytes(bytes: &[u8]) {
     let mut i = 0;
     while i < bytes.len() {
         show_byte(bytes[i]);
         i += 1;
     }
-    io::write_all(STDOUT_FILENO, b"\n");
 }
 
 fn show_byte(byte: u8) {

@@ -5,7 +5,7 @@ use Prim.Native.Nat.{ℕ, _*_}
 use lib.ListN.{drop}
 use borrow.Author.Needs.{needs}
 use Rattle.shelf.specs.Rows.{rowCount}
-use Rattle.planner.specs.Answers.{plans-refused, room, ready, plans-placed}
+use Rattle.planner.specs.Answers.{plans-refused, room, plannable, plans-placed}
 use Rattle.planner.proofs.plan.Statement.{statement}
 use Rattle.planner.proofs.plan.Tie as tie
 
@@ -25,11 +25,11 @@ slice-relend-prefix-place-and-write c = room _ (Entry c .args .calls .now) (Entr
 
 slice-aggregate-place-and-write : tie.Need-slice-aggregate-place-and-write
 unfolding rowCount
-slice-aggregate-place-and-write c = let passed = c .before in sym (ready _ _ _ _ (Refused passed .refuse .ensures) (passed .if1 .left) .whole)
+slice-aggregate-place-and-write c = let passed = c .before in sym (plannable _ _ _ _ (Refused passed .refuse .ensures) (passed .if1 .left) .whole)
 
 place-and-write-requires : tie.Need-place-and-write-requires
 unfolding rowCount
-place-and-write-requires c κs = let passed = c .before in ready _ _ _ _ (Refused passed .refuse .ensures) (passed .if1 .left)
+place-and-write-requires c κs = let passed = c .before in plannable _ _ _ _ (Refused passed .refuse .ensures) (passed .if1 .left)
 
 same-length : tie.Need-same-length
 same-length c = search needs

@@ -6,16 +6,22 @@ use Rattle.vectors.proofs.main.Statement.{statement}
 use Rattle.vectors.proofs.main.Tie as tie
 
 abbrev Inv-loop : tie.InvT-loop
-Inv-loop parts₀ room₀ left₀ parts room left = (length parts ≡ 65536) × (length room ≡ 65536)
+Inv-loop parts₀ first₀ second₀ third₀ left₀ parts first second third left = (length parts ≡ 65536) × (length first ≡ 65536) × (length second ≡ 65536) × (length third ≡ 65536)
 
 abbrev μ-loop : tie.MeasureT-loop
-μ-loop parts₀ room₀ left₀ parts room left = left
+μ-loop parts₀ first₀ second₀ third₀ left₀ parts first second third left = left
 
 large-buffer-requires : tie.Need-large-buffer-requires Inv-loop μ-loop
 large-buffer-requires c κs = search needs
 
 large-buffer-requires-2 : tie.Need-large-buffer-requires-2 Inv-loop μ-loop
 large-buffer-requires-2 c κs = search needs
+
+large-buffer-requires-3 : tie.Need-large-buffer-requires-3 Inv-loop μ-loop
+large-buffer-requires-3 c κs = search needs
+
+large-buffer-requires-4 : tie.Need-large-buffer-requires-4 Inv-loop μ-loop
+large-buffer-requires-4 c κs = search needs
 
 loop-holds : tie.Need-loop-holds Inv-loop μ-loop
 loop-holds c = search needs
@@ -25,6 +31,12 @@ slice-aggregate-answer-next c = search needs
 
 slice-aggregate-answer-next-2 : tie.Need-slice-aggregate-answer-next-2 Inv-loop μ-loop
 slice-aggregate-answer-next-2 c = search needs
+
+slice-aggregate-answer-next-3 : tie.Need-slice-aggregate-answer-next-3 Inv-loop μ-loop
+slice-aggregate-answer-next-3 c = search needs
+
+slice-aggregate-answer-next-4 : tie.Need-slice-aggregate-answer-next-4 Inv-loop μ-loop
+slice-aggregate-answer-next-4 c = search needs
 
 answer-next-requires : tie.Need-answer-next-requires Inv-loop μ-loop
 answer-next-requires c κs = search needs
@@ -55,9 +67,13 @@ main-spec =
     μ-loop
     large-buffer-requires
     large-buffer-requires-2
+    large-buffer-requires-3
+    large-buffer-requires-4
     loop-holds
     slice-aggregate-answer-next
     slice-aggregate-answer-next-2
+    slice-aggregate-answer-next-3
+    slice-aggregate-answer-next-4
     answer-next-requires
     sub-left
     loop-less

@@ -40,11 +40,11 @@ inside c = omega (arith, listed-length (c .list .ensures), c .list .ensures .ins
 array-share-prefix-text : tie.Need-array-share-prefix-text
 array-share-prefix-text c = inside (To-list c)
 
-slice-aggregate-end-line : tie.Need-slice-aggregate-end-line
-slice-aggregate-end-line c = sym (length-take-le _ _ (inside (To-list (c .before))))
+slice-aggregate-show-bytes : tie.Need-slice-aggregate-show-bytes
+slice-aggregate-show-bytes c = sym (length-take-le _ _ (inside (To-list (c .before))))
 
-end-line-requires : tie.Need-end-line-requires
-end-line-requires c κs = search needs
+show-bytes-requires : tie.Need-show-bytes-requires
+show-bytes-requires c κs = search needs
 
 returns : tie.Need-returns
 returns c = search needs
@@ -61,6 +61,6 @@ show-listing-spec =
     changed-requires
     show-requires-2
     array-share-prefix-text
-    slice-aggregate-end-line
-    end-line-requires
+    slice-aggregate-show-bytes
+    show-bytes-requires
     returns)

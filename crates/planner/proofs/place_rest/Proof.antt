@@ -1,5 +1,5 @@
--- `planner::place_all` meets its contract. The loop's invariant: the calls of the rows passed so far are placed.
-use mathlib.Core.Path.{refl, sym, ap, _∙_}
+-- `planner::place_rest` meets its contract. The loop's invariant: the calls of the rows passed so far are placed.
+use mathlib.Core.Path.{sym, ap, _∙_}
 use Prim.Native.Nat.{_+_, _*_, _≤_, _<_, _-_}
 use native.Mathlib.Nat.{le-antisymm}
 use native.Mathlib.Omega.{arith}
@@ -7,27 +7,23 @@ use lib.ListN.{length}
 use lib.Seq.{length-take-le}
 use Rattle.shelf.specs.Network.{mostModules, mostCalls}
 use Rattle.shelf.specs.Rows.{rowCount}
-use Rattle.choice.specs.Placement.{chainPlaces}
+use Rattle.choice.specs.Placement.{earlier}
 use Rattle.planner.specs.Placing.{SoFar, none-so-far, entered-length, placeable, next-so-far, moved-small, all-so-far}
-use Rattle.planner.proofs.place_all.Statement.{statement}
-use Rattle.planner.proofs.place_all.Tie as tie
+use Rattle.planner.proofs.place_rest.Statement.{statement}
+use Rattle.planner.proofs.place_rest.Tie as tie
 
 abbrev Inv-loop : tie.InvT-loop
-Inv-loop net calls rows₀ count used₀ chain₀ moved₀ placed₀ rows used chain moved placed = SoFar net calls placed rows used chain moved
+Inv-loop net calls rows₀ first used₀ chain₀ count moved₀ placed₀ rows used chain moved placed = SoFar net calls (earlier rows₀ first) first placed rows used chain moved
 
 abbrev μ-loop : tie.MeasureT-loop
-μ-loop net calls rows₀ count used₀ chain₀ moved₀ placed₀ rows used chain moved placed = count - placed
-
-record-of-requires : tie.Need-record-of-requires Inv-loop μ-loop
-record-of-requires c κs = record { rows-held = omega arith; modules = λ output i l. absurd (omega arith); centrals = λ i l. absurd (omega arith) }
+μ-loop net calls rows₀ first used₀ chain₀ count moved₀ placed₀ rows used chain moved placed = count - placed
 
 loop-holds : tie.Need-loop-holds Inv-loop μ-loop
-unfolding chainPlaces mostModules
-loop-holds c = none-so-far (c .before .before .before .before .pre) (c .record-of .ensures) refl
+loop-holds c = none-so-far (c .before .before .pre)
 
 -- the row of the loop
 abbrev Entry : tie.In-loop Inv-loop μ-loop → tie.Start Inv-loop μ-loop
-Entry c = c .before .before .before .before .before .before
+Entry c = c .before .before .before .before
 
 below : (c : tie.In-loop Inv-loop μ-loop) → c .before .loop .placed < rowCount (Entry c .args .calls .now)
 unfolding rowCount
@@ -92,7 +88,7 @@ loop-again c =
     rw (Lent c .before .before .enter-call .ensures) (next-so-far (Entry inside .pre) (inside .before .loop .inv) (below inside) (rw (Lent c .before .before .enter-call .ensures) at (c .before .before .place .ensures)))
 
 abbrev Before : tie.After-loop Inv-loop μ-loop → tie.Start Inv-loop μ-loop
-Before c = c .before .before .before .before .before .before
+Before c = c .before .before .before .before
 
 same-length : tie.Need-same-length Inv-loop μ-loop
 same-length c = c .before .loop .inv .whole ∙ sym (Before c .pre .whole)
@@ -101,8 +97,8 @@ returns : tie.Need-returns Inv-loop μ-loop
 unfolding rowCount
 returns c = all-so-far (Before c .pre) (c .before .loop .inv) (le-antisymm (c .before .loop .inv .below) (c .loop-test .left))
 
-pub place-all-spec : {M : Type 1} → statement M
-place-all-spec =
+pub place-rest-spec : {M : Type 1} → statement M
+place-rest-spec =
     tie.close
-    (tie.spec Inv-loop μ-loop record-of-requires loop-holds enter-call-requires mul-end add-end slice-relend-prefix-place slice-aggregate-place
+    (tie.spec Inv-loop μ-loop loop-holds enter-call-requires mul-end add-end slice-relend-prefix-place slice-aggregate-place
     place-requires add-moved add-placed (λ c. omega arith) loop-again same-length returns)

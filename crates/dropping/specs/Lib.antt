@@ -1,0 +1,3 @@
+pub mod Dropping
+pub mod WithoutRow
+pub mod DroppingLaws

@@ -1,0 +1,5 @@
+pub mod History
+pub mod Ledger
+pub mod Counting
+pub mod HistoryLaws
+pub mod Freed
