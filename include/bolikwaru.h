@@ -1,12 +1,13 @@
-/* Bolikwaru for C: plans settings for a wavelength cross-connect shelf, judges settings, adds and drops single calls, reads and
-   writes plan files.
+/* Bolikwaru for C: plans settings for a wavelength cross-connect shelf, judges settings, adds and drops single calls, reads, writes
+   and converts plan files.
    Link target/staticlib/libexported.a (x86-64 Linux). Every answer is proved for all numbers and all bytes; the promises
    stand in crates/exported/src/lib.rt, and this header is kept by hand beside them.
 
    A buffer is handed over as a pointer and a length in bytes; where the length is 0 any pointer will do, also null. A buffer
    that is written must overlap no other. Nothing else is asked of the input. Nothing is kept between calls or allocated.
    Stack, as measured (docs/BENCHMARKS.md): the planner takes 4,632 bytes and some 24 more for each call on its longest chain,
-   7,648 on the worst table found; acceptance takes 4,232, an add 8,696, a drop 4,280, the reader 5,496, the writers 5,624.
+   7,648 on the worst table found; acceptance takes 4,232, an add 8,696, a drop 4,280, the reader 5,624, the writers 5,640, a
+   conversion 5,784.
 
    A call row has 4 bytes: input module, its channel, output module, its channel. The first two are its inlet, the last two
    its outlet. A settings row has 3: wavelength to the central module, central module, wavelength from it. Settings row i
@@ -29,11 +30,14 @@
        11  the light does not reach its output module                                      that row
        12  an earlier row has the same input module and central                            that row
        13  an earlier row has the same central and output module                           that row
-       14  no trailer: under 12 bytes, wrong mark, or kind not 1 or 2                      0
+       14  no trailer: under 12 bytes, wrong mark, or a kind that is not taken (reading
+           takes 1 to 4, a conversion those it is for); for kinds 3 and 4 also under 14
+           bytes, or a spare byte that is not zero                                         0
        15  distances not as stated, more than the file holds, or a note above 255 bytes    0
        16  note to be written above 255 bytes                                              0
        17  the table has no such row to be dropped                                         0
-       18  w is not the larger of r and m, and a file to be written has no place for it    0
+       18  w is not the larger of r and m, and a file to be written has no place for it,
+           or a conversion would lose it                                                   0
 
    Every number but 0 is a refusal, and a refusal changes no byte of any buffer. */
 #ifndef BOLIKWARU_H
@@ -59,12 +63,14 @@ extern "C" {
    moved rows. */
 #define BOLIKWARU_LONGEST_TABLE 4096
 #define BOLIKWARU_MOST_SETTINGS 3072
-#define BOLIKWARU_LONGEST_FILE 7435
+#define BOLIKWARU_LONGEST_FILE 7437
 #define BOLIKWARU_MOST_MOVED_ROWS 2046
 
-/* The kinds of file. */
+/* The kinds of file: calls only, or planned; the old ones tell no cycle, the new ones do. */
 #define BOLIKWARU_CALLS_ONLY 1
 #define BOLIKWARU_PLANNED 2
+#define BOLIKWARU_CALLS_WITH_CYCLE 3
+#define BOLIKWARU_PLANNED_WITH_CYCLE 4
 
 /* A network: n channels of each module, m central modules, r input modules and as many output modules, and w, the cycle of both
    gratings: a grating's own number of ports, and of wavelengths inside the shelf. An initialiser with three numbers leaves w
@@ -73,7 +79,7 @@ typedef struct {
     size_t n, m, r, w;
 } bolikwaru_network;
 
-/* The network of these sizes with the least cycle, the larger of r and m: what a plan file of the two kinds stands for.
+/* The network of these sizes with the least cycle, the larger of r and m: what a plan file of kind 1 or 2 stands for.
    Nothing is refused here. */
 static inline bolikwaru_network bolikwaru_of_sizes(size_t n, size_t m, size_t r) {
     const bolikwaru_network net = {n, m, r, r < m ? m : r};
@@ -90,12 +96,12 @@ typedef struct {
     size_t number, row, moved;
 } bolikwaru_planned;
 
-/* A number and a row, and what the file tells: the network's sizes, the kind, K as count, and where note, calls and settings
-   begin, in bytes from the file's start. The network is bolikwaru_of_sizes(n, m, r). In a calls-only file settings begin at
-   the trailer. If refused, all but number and row are 0. */
+/* A number and a row, and what the file tells: the network with its cycle, the kind, K as count, and where note, calls and
+   settings begin, in bytes from the file's start. Where the file has no place for the cycle, kinds 1 and 2, w is the larger of r
+   and m. In a calls-only file settings begin at the trailer. If refused, all but number and row are 0. */
 typedef struct {
     size_t number, row;
-    size_t n, m, r;
+    size_t n, m, r, w;
     size_t kind, count;
     size_t note_at, calls_at, settings_at;
 } bolikwaru_told;
@@ -137,11 +143,11 @@ bolikwaru_verdict bolikwaru_drop(bolikwaru_network net,
                                  uint8_t *calls_after, size_t calls_after_length,
                                  uint8_t *settings_after, size_t settings_after_length);
 
-/* Reads a plan file. Refusals are tried in the order 14, 1, 3, 15, 5, 6, 7, then for a planned file row by row 9 to 13. No
+/* Reads a plan file of any kind. Refusals are tried in the order 14, 1, 3, 15, 5, 6, 7, then for a planned file row by row 9 to 13. No
    buffer is written. */
 bolikwaru_told bolikwaru_read(const uint8_t *file, size_t file_length);
 
-/* Writes a calls-only file. Settings have no bytes. Success writes note, calls and 12 bytes of trailer at the front of `out`
+/* Writes a calls-only file, of kind 1. Settings have no bytes. Success writes note, calls and 12 bytes of trailer at the front of `out`
    and keeps the bytes beyond. Refusals are tried in the order 1, 2, 3, 16, 4, 5, 6, 7, 18. */
 bolikwaru_verdict bolikwaru_write_calls(bolikwaru_network net,
                                         const uint8_t *note, size_t note_length,
@@ -149,7 +155,7 @@ bolikwaru_verdict bolikwaru_write_calls(bolikwaru_network net,
                                         const uint8_t *settings, size_t settings_length,
                                         uint8_t *out, size_t out_length);
 
-/* Writes a planned file. Settings have 3 bytes for each call. Success writes note, calls, settings and 12 bytes of trailer at
+/* Writes a planned file, of kind 2. Settings have 3 bytes for each call. Success writes note, calls, settings and 12 bytes of trailer at
    the front of `out` and keeps the bytes beyond. Refusals are tried in the order 1, 2, 3, 16, 4, 5, 6, 7, then row by row 9
    to 13, then 18. */
 bolikwaru_verdict bolikwaru_write_planned(bolikwaru_network net,
@@ -157,6 +163,35 @@ bolikwaru_verdict bolikwaru_write_planned(bolikwaru_network net,
                                           const uint8_t *calls, size_t calls_length,
                                           const uint8_t *settings, size_t settings_length,
                                           uint8_t *out, size_t out_length);
+
+/* Writes a calls-only file that tells the cycle, of kind 3: as bolikwaru_write_calls, with 14 bytes of trailer, and for every w
+   within its limits. Refusals are tried in the order 1, 2, 3, 16, 4, 5, 6, 7; 18 is never given. */
+bolikwaru_verdict bolikwaru_write_calls_with_cycle(bolikwaru_network net,
+                                                   const uint8_t *note, size_t note_length,
+                                                   const uint8_t *calls, size_t calls_length,
+                                                   const uint8_t *settings, size_t settings_length,
+                                                   uint8_t *out, size_t out_length);
+
+/* Writes a planned file that tells the cycle, of kind 4: as bolikwaru_write_planned, with 14 bytes of trailer, and for every w
+   within its limits. Refusals are tried in the order 1, 2, 3, 16, 4, 5, 6, 7, then row by row 9 to 13; 18 is never given. */
+bolikwaru_verdict bolikwaru_write_planned_with_cycle(bolikwaru_network net,
+                                                     const uint8_t *note, size_t note_length,
+                                                     const uint8_t *calls, size_t calls_length,
+                                                     const uint8_t *settings, size_t settings_length,
+                                                     uint8_t *out, size_t out_length);
+
+/* Converts an old file to a new one: kind 1 to kind 3, kind 2 to kind 4, at the front of `out`, two bytes longer; the bytes beyond
+   are kept. Success tells K. The new file reads as the old one does, but for the kind. Refusals are tried in the order of
+   bolikwaru_read, where 14 is given for any kind but 1 and 2; then 18, then 4. No file of kind 1 or 2 is refused 18. */
+bolikwaru_verdict bolikwaru_convert_to_new(const uint8_t *file, size_t file_length,
+                                           uint8_t *out, size_t out_length);
+
+/* Converts a new file to an old one: kind 3 to kind 1, kind 4 to kind 2, at the front of `out`, two bytes shorter; the bytes beyond
+   are kept. Success tells K. Refusals are tried in the order of bolikwaru_read, where 14 is given for any kind but 3 and 4; then 18
+   if w is not the larger of r and m, since the old file could not tell it, then 4. There and back, either way round, gives the
+   first file's bytes. */
+bolikwaru_verdict bolikwaru_convert_to_old(const uint8_t *file, size_t file_length,
+                                           uint8_t *out, size_t out_length);
 
 #ifdef __cplusplus
 }

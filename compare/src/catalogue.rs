@@ -7,26 +7,52 @@ mod by_light;
 mod chains;
 mod cycles;
 mod faults;
+mod file_faults;
 mod files;
 mod from_documents;
 mod limits;
 mod listed;
 mod step_faults;
 mod steps;
+mod with_cycle;
 mod worked;
 
-use crate::inputs::{drawn_of_sizes, drawn_of_tables, drawn_steps, Input};
+use crate::inputs::{drawn_of_files, drawn_of_sizes, drawn_of_tables, drawn_steps, Input};
 use crate::stored_form::{stored_input, Stored};
 
 /// All stored inputs: those of the entries for whole tables, then the files to be listed, then those
-/// that add a call or drop one.
+/// that add a call or drop one; and then those of files that tell the cycle, and of conversions, and
+/// such files to be listed.
 pub fn stored_inputs() -> Vec<Stored> {
-    let of_tables = table_inputs().into_iter().map(Stored::Input);
-    let listed = listed::listed_files()
+    let groups = [
+        of_entries(table_inputs()),
+        to_be_listed(listed::listed_files()),
+        of_entries(step_inputs()),
+        of_entries(file_inputs()),
+        to_be_listed(listed::listed_with_cycle()),
+    ];
+    groups.concat()
+}
+
+fn of_entries(inputs: Vec<Input>) -> Vec<Stored> {
+    inputs.into_iter().map(Stored::Input).collect()
+}
+
+fn to_be_listed(files: Vec<Vec<u8>>) -> Vec<Stored> {
+    files
         .into_iter()
-        .map(|file| Stored::List { file });
-    let of_steps = step_inputs().into_iter().map(Stored::Input);
-    of_tables.chain(listed).chain(of_steps).collect()
+        .map(|file| Stored::List { file })
+        .collect()
+}
+
+/// The stored inputs of files that tell the cycle, and of conversions.
+fn file_inputs() -> Vec<Input> {
+    let groups = [
+        with_cycle::files_with_cycle(),
+        file_faults::file_faults(),
+        short_of(drawn_of_files(155), 30),
+    ];
+    without_repeats(groups.concat())
 }
 
 /// The stored inputs of the entries for single calls.
@@ -97,15 +123,15 @@ mod tests {
         let inputs = stored_inputs();
         let (questions, answers) = stored_files(&inputs);
         assert_eq!(answers.lines().count(), inputs.len());
-        assert!(questions.len() < 1_600_000, "{}", questions.len());
-        assert!(answers.len() < 950_000, "{}", answers.len());
+        assert!(questions.len() < 2_000_000, "{}", questions.len());
+        assert!(answers.len() < 1_200_000, "{}", answers.len());
     }
 
     /// The refusals that apply decide every stored answer, and those of drawn inputs.
     #[test]
     fn refusals_that_apply_decide_the_answers() {
-        let stored = table_inputs().into_iter().chain(step_inputs());
-        for input in stored.chain(drawn(7).take(3000)) {
+        let stored = [table_inputs(), step_inputs(), file_inputs()].concat();
+        for input in stored.into_iter().chain(drawn(7).take(4000)) {
             let (answer, _) = answer_of(&Plain, &input);
             match owed_refusal(&input) {
                 Some(owed) => {

@@ -1,12 +1,18 @@
-//! Comparison of two implementations on one input, and on every small input.
+//! Comparison of two implementations on one input, and on every small input. Every small file is in
+//! `comparison/files.rs`, every small step in `comparison/steps.rs`; what is said of files there and
+//! back is checked by `comparison/round_trips.rs`.
 
+mod files;
+mod round_trips;
 mod steps;
 
-use crate::inputs::{file_of, filled, setting_of, settings_length, Entry, Input};
+use crate::inputs::{
+    converted_length, file_length, filled, setting_of, settings_length, Entry, Input,
+};
 use crate::ladders::calls_of_pairs;
 use crate::{
-    Entries, Network, Planned, Told, Verdict, CALL_BYTES, HIGHEST_NUMBER, KIND_CALLS, KIND_PLANNED,
-    MOVED_BYTES, SETTING_BYTES, TRAILER_BYTES,
+    Entries, Kind, Network, Planned, Told, Verdict, CALL_BYTES, HIGHEST_NUMBER, MOVED_BYTES,
+    SETTING_BYTES,
 };
 
 /// What an entry answered.
@@ -45,6 +51,7 @@ impl Answer {
                 told.n,
                 told.m,
                 told.r,
+                told.w,
                 told.kind,
                 told.count,
                 told.note_at,
@@ -203,30 +210,14 @@ fn run(entries: &dyn Entries, input: &Input) -> Outcome {
             let answer = entries.read(lent[0].bytes());
             outcome(Answer::Told(answer), &lent, &[])
         }
-        Input::WriteCalls {
+        Input::Write {
+            kind,
             net,
             note,
             calls,
             settings,
             out,
-        } => {
-            let written = note.len() + calls.len() + TRAILER_BYTES;
-            run_writer([note, calls, settings], out, written, |parts, out| {
-                entries.write_calls(*net, parts[0], parts[1], parts[2], out)
-            })
-        }
-        Input::WritePlanned {
-            net,
-            note,
-            calls,
-            settings,
-            out,
-        } => {
-            let written = note.len() + calls.len() + settings.len() + TRAILER_BYTES;
-            run_writer([note, calls, settings], out, written, |parts, out| {
-                entries.write_planned(*net, parts[0], parts[1], parts[2], out)
-            })
-        }
+        } => run_writer(entries, *kind, *net, [note, calls, settings], out),
         Input::Add {
             net,
             calls,
@@ -250,6 +241,18 @@ fn run(entries: &dyn Entries, input: &Input) -> Outcome {
             let rooms = [&calls_after[..], settings_after];
             run_drop(entries, *net, [calls, settings], *row, rooms)
         }
+        Input::ConvertToNew { file, out } => run_conversion(
+            |file, out| entries.convert_to_new(file, out),
+            Kind::Calls,
+            file,
+            out,
+        ),
+        Input::ConvertToOld { file, out } => run_conversion(
+            |file, out| entries.convert_to_old(file, out),
+            Kind::CallsWithCycle,
+            file,
+            out,
+        ),
     }
 }
 
@@ -306,18 +309,38 @@ fn run_drop(
 
 /// Lends a writer its note, calls and settings, and its room.
 fn run_writer(
+    entries: &dyn Entries,
+    kind: Kind,
+    net: Network,
     parts: [&[u8]; 3],
     out: &[u8],
-    written: usize,
-    write: impl Fn([&[u8]; 3], &mut [u8]) -> Verdict,
 ) -> Outcome {
     let lent = parts.map(Lent::new);
     let mut room = Lent::new(out);
     let [note, calls, settings] = &lent;
-    let answer = write(
+    let answer = entries.write(
+        kind,
+        net,
         [note.bytes(), calls.bytes(), settings.bytes()],
         room.bytes_mut(),
     );
+    let [note, calls, settings] = parts;
+    let written = file_length(kind, note, calls, settings);
+    outcome(Answer::Verdict(answer), &lent, &[(room, written)])
+}
+
+/// Lends a conversion its file and its room. Of the two kinds that it takes one is named, since the
+/// files of both become longer, or shorter, by as much.
+fn run_conversion(
+    convert: impl Fn(&[u8], &mut [u8]) -> Verdict,
+    taken: Kind,
+    file: &[u8],
+    out: &[u8],
+) -> Outcome {
+    let lent = [Lent::new(file)];
+    let mut room = Lent::new(out);
+    let answer = convert(lent[0].bytes(), room.bytes_mut());
+    let written = converted_length(taken, file);
     outcome(Answer::Verdict(answer), &lent, &[(room, written)])
 }
 
@@ -366,13 +389,20 @@ fn broken_sentence(answer: &Answer, lent: &[Lent], rooms: &[Room]) -> Option<&'s
 // Two implementations on one input.
 
 /// Lets both implementations answer the input; answers, rooms and the document's sentences are
-/// compared.
+/// compared. Where a file was read, written or converted, it has to go there and back by the right
+/// implementation.
 pub fn compare_all(
     left: &dyn Entries,
     right: &dyn Entries,
     input: &Input,
 ) -> Result<Seen, Difference> {
-    let (answer, _) = answer_of_both(left, right, input)?;
+    let (answer, rooms) = answer_of_both(left, right, input)?;
+    if answer.number() == 0 {
+        if let Some(sentence) = round_trips::broken_round_trip(right, input, &rooms) {
+            let what = format!("right breaks: {}", sentence);
+            return Err(Difference::new(what, input));
+        }
+    }
     Ok(Seen {
         entry: input.entry(),
         number: answer.number(),
@@ -432,7 +462,7 @@ impl Both<'_> {
 }
 
 /// Compares both implementations on every small input: some hundred thousand for each of planner,
-/// acceptance, adds and drops.
+/// acceptance, adds, drops, and the entries for files.
 pub fn compare_exhaustively(
     left: &dyn Entries,
     right: &dyn Entries,
@@ -447,11 +477,9 @@ pub fn compare_exhaustively(
     plan_pairs(&mut both)?;
     accept_one_row(&mut both)?;
     accept_two_rows(&mut both)?;
-    write_one_row(&mut both)?;
-    read_one_row(&mut both)?;
-    read_damaged_files(&mut both)?;
     try_rooms(&mut both)?;
     try_cycles(&mut both)?;
+    files::compare_files(&mut both)?;
     steps::compare_steps(&mut both)?;
     Ok(both.coverage)
 }
@@ -594,89 +622,19 @@ fn accept_two_rows(both: &mut Both) -> Result<(), Difference> {
     Ok(())
 }
 
-/// A call of the writer of calls-only files, given no settings, with a note and room for a row.
-fn write_calls_input(net: Network, calls: Vec<u8>) -> Input {
-    Input::WriteCalls {
-        net,
-        note: filled(1),
-        calls,
-        settings: Vec::new(),
-        out: filled(19),
-    }
-}
-
-/// A call of the writer of planned files with a note and room for a row.
-fn write_planned_input(net: Network, calls: Vec<u8>, settings: Vec<u8>) -> Input {
-    Input::WritePlanned {
-        net,
-        note: filled(1),
-        calls,
-        settings,
-        out: filled(22),
-    }
-}
-
-/// Every network with sizes up to 2 and a cycle around the larger of r and m, one row with numbers up
-/// to 2: written, calls only and planned.
-fn write_one_row(both: &mut Both) -> Result<(), Difference> {
-    for net in networks(2) {
-        for calls in strings(CALL_BYTES, 2) {
-            both.compare(write_calls_input(net, calls.clone()))?;
-            for settings in strings(SETTING_BYTES, 2) {
-                both.compare(write_planned_input(net, calls.clone(), settings))?;
-            }
-        }
-    }
-    Ok(())
-}
-
-/// Every three sizes up to 2, one row with numbers up to 2: read, calls only and planned.
-fn read_one_row(both: &mut Both) -> Result<(), Difference> {
+/// A call of the writer of a kind, with a note and room for a row and two bytes more. A writer of
+/// calls-only files is given no settings.
+fn write_input(kind: Kind, net: Network, calls: &[u8], settings: &[u8]) -> Input {
+    let settings = if kind.has_settings() { settings } else { &[] };
     let note = filled(1);
-    for net in networks_of_sizes(2) {
-        for calls in strings(CALL_BYTES, 2) {
-            both.compare(Input::Read {
-                file: file_of(KIND_CALLS, net, &note, &calls, &[]),
-            })?;
-            for settings in strings(SETTING_BYTES, 2) {
-                both.compare(Input::Read {
-                    file: file_of(KIND_PLANNED, net, &note, &calls, &settings),
-                })?;
-            }
-        }
+    Input::Write {
+        kind,
+        net,
+        out: filled(file_length(kind, &note, calls, settings) + 2),
+        note,
+        calls: calls.to_vec(),
+        settings: settings.to_vec(),
     }
-    Ok(())
-}
-
-/// Two files of each kind: every value of every byte, and every cut at either end.
-fn read_damaged_files(both: &mut Both) -> Result<(), Difference> {
-    let net = Network::of_sizes(2, 2, 2);
-    let calls = [0, 0, 0, 0, 1, 0, 1, 0];
-    let settings = [0, 0, 0, 1, 0, 1];
-    let files = [
-        file_of(KIND_CALLS, net, &[], &[], &[]),
-        file_of(KIND_CALLS, net, &[7, 8, 9], &calls, &[]),
-        file_of(KIND_PLANNED, net, &[], &[], &[]),
-        file_of(KIND_PLANNED, net, &[7], &calls, &settings),
-    ];
-    for file in &files {
-        for place in 0..file.len() {
-            for byte in 0..=255 {
-                let mut damaged = file.clone();
-                damaged[place] = byte;
-                both.compare(Input::Read { file: damaged })?;
-            }
-        }
-        for cut in 0..=file.len() {
-            both.compare(Input::Read {
-                file: file[..cut].to_vec(),
-            })?;
-            both.compare(Input::Read {
-                file: file[cut..].to_vec(),
-            })?;
-        }
-    }
-    Ok(())
 }
 
 /// Rooms of every length around what is needed, and notes around 255 bytes.
@@ -691,20 +649,17 @@ fn try_rooms(both: &mut Both) -> Result<(), Difference> {
             settings: filled(room),
         })?;
         for note in [0, 1, 254, 255, 256, 257] {
-            both.compare(Input::WriteCalls {
-                net,
-                note: filled(note),
-                calls: calls.to_vec(),
-                settings: Vec::new(),
-                out: filled(room),
-            })?;
-            both.compare(Input::WritePlanned {
-                net,
-                note: filled(note),
-                calls: calls.to_vec(),
-                settings: settings.to_vec(),
-                out: filled(room),
-            })?;
+            for kind in Kind::ALL {
+                let settings: &[u8] = if kind.has_settings() { &settings } else { &[] };
+                both.compare(Input::Write {
+                    kind,
+                    net,
+                    note: filled(note),
+                    calls: calls.to_vec(),
+                    settings: settings.to_vec(),
+                    out: filled(room),
+                })?;
+            }
         }
     }
     Ok(())
@@ -723,7 +678,6 @@ fn try_cycles(both: &mut Both) -> Result<(), Difference> {
             for high in [0, 1 << 8, 1 << 16, 1 << 32, 1 << 63, usize::MAX - 130] {
                 let net = of_sizes.with_cycle(low + high);
                 both.compare(plan_input(net, calls.clone()))?;
-                both.compare(write_calls_input(net, calls.clone()))?;
                 for made_for in [of_sizes, of_sizes.with_cycle(low.max(1))] {
                     let settings = setting_of(made_for, &calls, m - 1).to_vec();
                     both.compare(Input::Accept {
@@ -731,7 +685,9 @@ fn try_cycles(both: &mut Both) -> Result<(), Difference> {
                         calls: calls.clone(),
                         settings: settings.clone(),
                     })?;
-                    both.compare(write_planned_input(net, calls.clone(), settings))?;
+                    for kind in Kind::ALL {
+                        both.compare(write_input(kind, net, &calls, &settings))?;
+                    }
                 }
             }
         }

@@ -12,25 +12,86 @@ mod steps;
 
 pub use steps::{step_with, step_with_in_one_row};
 
-use crate::inputs::{file_of, filled, setting_of, Input};
+use crate::inputs::{converted_length, file_of, filled, setting_of, with_kind_byte, Input};
 use crate::refusals::Asked;
-use crate::{
-    Network, CALL_BYTES, KIND_CALLS, KIND_PLANNED, LONGEST_NOTE, SETTING_BYTES, TRAILER_BYTES,
-};
+use crate::{Kind, Network, CALL_BYTES, CYCLE_BYTES, LONGEST_NOTE, SETTING_BYTES, TRAILER_BYTES};
+
+/// The ways of 1 that are made by n, by a cycle above 64, by one below r, and by one below m.
+const BY_CHANNELS: usize = 0;
+const BY_CYCLE_ABOVE: usize = 1;
+const BY_CYCLE_BELOW_MODULES: usize = 2;
+const BY_CYCLE_BELOW_CENTRALS: usize = 3;
+
+/// The ways of 14 that are made by either byte of the mark, by the spare byte, by the kind that there
+/// isn't after the others, by a file one byte shorter than its trailer, and for conversions by a
+/// whole file of the kind that they make.
+const BY_MARK: usize = 0;
+const BY_MARK_END: usize = 1;
+const BY_SPARE_BYTE: usize = 2;
+const BY_KIND: usize = 3;
+const BY_SHORT_FILE: usize = 4;
+const BY_KIND_MADE: usize = 5;
+
+/// The ways of 15 that are made by the note, and by either distance.
+const BY_NOTE: usize = 0;
+const BY_SETTINGS_DISTANCE: usize = 1;
+const BY_CALLS_DISTANCE: usize = 2;
+
+/// The kind that there isn't after the others.
+const NO_KIND: u8 = 5;
 
 impl Asked {
-    /// In how many ways a fault is made for this entry.
-    pub fn ways(self, number: usize) -> usize {
-        match number {
-            // By a byte too many of the calls, or of the settings where settings are given.
-            2 if self != Asked::Plan => 2,
+    /// The ways in which a fault is made for this entry.
+    pub fn ways(self, number: usize) -> &'static [usize] {
+        match (number, self) {
+            (1, Asked::Read(kind) | Asked::Write(kind) | Asked::Convert(kind))
+                if kind.tells_cycle() =>
+            {
+                &[
+                    BY_CHANNELS,
+                    BY_CYCLE_ABOVE,
+                    BY_CYCLE_BELOW_MODULES,
+                    BY_CYCLE_BELOW_CENTRALS,
+                ]
+            }
+            (2, Asked::Plan) => &[0],
+            // By a byte too many of the calls, or of the settings.
+            (2, _) => &[0, 1],
             // By x, by y, by the central.
-            9 => 3,
-            // By either byte of the mark.
-            14 => 2,
-            // By the note, by the distance of the settings, by the distance of the calls.
-            15 => 3,
-            _ => 1,
+            (9, _) => &[0, 1, 2],
+            (14, Asked::Convert(kind)) if kind.tells_cycle() => &[
+                BY_MARK,
+                BY_MARK_END,
+                BY_SPARE_BYTE,
+                BY_KIND,
+                BY_SHORT_FILE,
+                BY_KIND_MADE,
+            ],
+            (14, Asked::Convert(_)) => &[BY_MARK, BY_MARK_END, BY_KIND, BY_KIND_MADE],
+            (14, Asked::Read(kind)) if kind.tells_cycle() => {
+                &[BY_MARK, BY_MARK_END, BY_SPARE_BYTE, BY_KIND, BY_SHORT_FILE]
+            }
+            (14, _) => &[BY_MARK, BY_MARK_END],
+            (15, _) => &[BY_NOTE, BY_SETTINGS_DISTANCE, BY_CALLS_DISTANCE],
+            _ => &[0],
+        }
+    }
+
+    /// The ways in which a fault is made together with others of a file of kind 3 or 4, or of a
+    /// conversion: those that are new with such files where there are some, and otherwise the one
+    /// with the fewest bytes.
+    pub fn ways_in_pairs(self, number: usize) -> &'static [usize] {
+        match (number, self) {
+            (1, Asked::Convert(kind) | Asked::Read(kind) | Asked::Write(kind))
+                if kind.tells_cycle() =>
+            {
+                &[BY_CYCLE_ABOVE]
+            }
+            (14, Asked::Convert(kind)) if kind.tells_cycle() => &[BY_SPARE_BYTE, BY_KIND_MADE],
+            (14, Asked::Convert(_)) => &[BY_MARK, BY_KIND_MADE],
+            (14, _) => &[BY_SPARE_BYTE],
+            (15, _) => &[BY_CALLS_DISTANCE],
+            _ => &[0],
         }
     }
 }
@@ -40,6 +101,19 @@ impl Asked {
 pub struct Fault {
     pub number: usize,
     pub way: usize,
+}
+
+impl Fault {
+    /// Whether the fault is a cycle outside its limits, which is never the larger of r and m.
+    pub fn is_of_cycle(self) -> bool {
+        self.number == 1 && self.way != BY_CHANNELS
+    }
+
+    /// Whether the fault is a whole file of a kind that a conversion makes but doesn't take, so that
+    /// there is nothing to be said of its room, and no cycle that is lost.
+    pub fn is_of_kind_made(self) -> bool {
+        self.number == 14 && self.way == BY_KIND_MADE
+    }
 }
 
 /// An input that has the given faults; those sought in rows stand in the table in the order given.
@@ -59,11 +133,22 @@ pub fn input_with_in_one_row(asked: Asked, numbers: &[usize], others: &[Fault]) 
     draft.finish()
 }
 
-/// A network whose n is outside its limits where 1 is wished, and whose cycle is one above the larger
-/// of r and m where 18 is. For 3 it is large enough for 1,024 rows without fault, or, with 18 as
-/// well, as large as the limit of the cycle allows.
+/// A network whose n or cycle is outside its limits where 1 is wished, and whose cycle is one above
+/// the larger of r and m where 18 is. For 3 it is large enough for 1,024 rows without fault, or, with
+/// 18 as well, as large as the limit of the cycle allows.
 fn network_for(faults: &[Fault]) -> Network {
     let wished = |number: usize| faults.iter().any(|fault| fault.number == number);
+    let cycle = faults
+        .iter()
+        .find(|fault| fault.is_of_cycle())
+        .map(|fault| fault.way);
+    if let Some(way) = cycle {
+        return match way {
+            BY_CYCLE_BELOW_MODULES => Network::of_sizes(3, 2, 8).with_cycle(7),
+            BY_CYCLE_BELOW_CENTRALS => Network::of_sizes(3, 9, 8).with_cycle(8),
+            _ => Network::of_sizes(3, 2, 8).with_cycle(Network::MOST_WAVELENGTHS + 1),
+        };
+    }
     let most_modules = if wished(18) { 63 } else { 64 };
     let net = match (wished(1), wished(3)) {
         (false, false) => Network::of_sizes(3, 2, 8),
@@ -257,10 +342,11 @@ impl Draft {
         match self.asked {
             Asked::Plan => self.finish_plan(),
             Asked::Accept => self.finish_accept(),
-            Asked::ReadCalls => self.finish_read(KIND_CALLS),
-            Asked::ReadPlanned => self.finish_read(KIND_PLANNED),
-            Asked::WriteCalls => self.finish_write_calls(),
-            Asked::WritePlanned => self.finish_write_planned(),
+            Asked::Read(kind) => Input::Read {
+                file: self.file(kind),
+            },
+            Asked::Write(kind) => self.finish_write(kind),
+            Asked::Convert(kind) => self.finish_convert(kind),
         }
     }
 
@@ -285,26 +371,16 @@ impl Draft {
         }
     }
 
-    fn finish_write_calls(mut self) -> Input {
-        let note = self.note();
-        let room = self.room(note.len() + self.calls.len() + TRAILER_BYTES);
-        self.settings.clear();
-        self.spoil_lengths();
-        Input::WriteCalls {
-            net: self.net,
-            note,
-            calls: self.calls,
-            settings: self.settings,
-            out: room,
+    fn finish_write(mut self, kind: Kind) -> Input {
+        if !kind.has_settings() {
+            self.settings.clear();
         }
-    }
-
-    fn finish_write_planned(mut self) -> Input {
         let note = self.note();
-        let length = note.len() + self.calls.len() + self.settings.len() + TRAILER_BYTES;
+        let length = note.len() + self.calls.len() + self.settings.len() + kind.trailer_bytes();
         let room = self.room(length);
         self.spoil_lengths();
-        Input::WritePlanned {
+        Input::Write {
+            kind,
             net: self.net,
             note,
             calls: self.calls,
@@ -313,22 +389,50 @@ impl Draft {
         }
     }
 
-    fn finish_read(self, kind: usize) -> Input {
+    fn finish_convert(self, kind: Kind) -> Input {
+        let given = if self.wishes_way(14, BY_KIND_MADE) {
+            kind.converted()
+        } else {
+            kind
+        };
+        let file = self.file(given);
+        let out = self.room(converted_length(kind, &file));
+        if kind.tells_cycle() {
+            Input::ConvertToOld { file, out }
+        } else {
+            Input::ConvertToNew { file, out }
+        }
+    }
+
+    /// A file of the rows, with the faults that its trailer has.
+    fn file(&self, kind: Kind) -> Vec<u8> {
         let note = self.note();
-        let settings: &[u8] = if kind == KIND_PLANNED {
+        let settings: &[u8] = if kind.has_settings() {
             &self.settings
         } else {
             &[]
         };
         let mut file = file_of(kind, self.net, &note, &self.calls, settings);
-        let trailer_at = file.len() - TRAILER_BYTES;
-        let spoilt_places = [(15, 1, 7), (15, 2, 9), (14, 0, 10), (14, 1, 11)];
+        let twelve_at = file.len() - TRAILER_BYTES;
+        let spoilt_places = [
+            (15, BY_SETTINGS_DISTANCE, twelve_at + 7),
+            (15, BY_CALLS_DISTANCE, twelve_at + 9),
+            (14, BY_MARK, twelve_at + 10),
+            (14, BY_MARK_END, twelve_at + 11),
+            (14, BY_SPARE_BYTE, twelve_at - 1),
+        ];
         for (number, way, place) in spoilt_places {
             if self.wishes_way(number, way) {
-                file[trailer_at + place] ^= 1;
+                file[place] ^= 1;
             }
         }
-        Input::Read { file }
+        if self.wishes_way(14, BY_KIND) {
+            file = with_kind_byte(file, NO_KIND);
+        }
+        if self.wishes_way(14, BY_SHORT_FILE) {
+            file = file.split_off(twelve_at - CYCLE_BYTES + 1);
+        }
+        file
     }
 
     /// Adds a byte to the calls or to the settings where 2 is wished.
@@ -343,17 +447,19 @@ impl Draft {
 
     /// A note of two bytes, or one byte too long where 16 is wished, or 15 by its note.
     fn note(&self) -> Vec<u8> {
-        if self.wishes(16) || self.wishes_way(15, 0) {
+        if self.wishes(16) || self.wishes_way(15, BY_NOTE) {
             filled(LONGEST_NOTE + 1)
         } else {
             filled(2)
         }
     }
 
-    /// A room as long as needed, or one byte less where 4 is wished. With 1,025 rows and 18 there is
-    /// no room at all, which is 4 as well, so that these inputs are short.
+    /// A room as long as needed, or one byte less where 4 is wished. With 1,025 rows and 18, and with
+    /// 1,025 rows for an entry of new files, there is no room at all, which is 4 as well, so that
+    /// these inputs are short.
     fn room(&self, needed: usize) -> Vec<u8> {
-        if self.wishes(3) && self.wishes(18) {
+        let is_of_new = Asked::OF_NEW_FILES.contains(&self.asked);
+        if self.wishes(3) && (self.wishes(18) || is_of_new) {
             return Vec::new();
         }
         filled(if self.wishes(4) { needed - 1 } else { needed })

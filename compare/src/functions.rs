@@ -19,6 +19,7 @@ type Write = unsafe extern "C" fn(
     usize,
 ) -> Verdict;
 
+type Convert = unsafe extern "C" fn(*const u8, usize, *mut u8, usize) -> Verdict;
 type Add = unsafe extern "C" fn(
     Network,
     *const u8,
@@ -47,7 +48,7 @@ type Drop = unsafe extern "C" fn(
     usize,
 ) -> Verdict;
 
-/// Seven functions of the forms that include/bolikwaru.h has. They ask no more of their input than is
+/// Eleven functions of the forms that include/bolikwaru.h has. They ask no more of their input than is
 /// said there, so that any slices may be handed over.
 pub struct Functions {
     plan: Plan,
@@ -57,6 +58,10 @@ pub struct Functions {
     write_planned: Write,
     add: Add,
     drop: Drop,
+    write_calls_with_cycle: Write,
+    write_planned_with_cycle: Write,
+    convert_to_new: Convert,
+    convert_to_old: Convert,
 }
 
 /// The library's functions.
@@ -68,6 +73,10 @@ pub const LIBRARY: Functions = Functions {
     write_planned: bolikwaru_write_planned,
     add: bolikwaru_add,
     drop: bolikwaru_drop,
+    write_calls_with_cycle: bolikwaru_write_calls_with_cycle,
+    write_planned_with_cycle: bolikwaru_write_planned_with_cycle,
+    convert_to_new: bolikwaru_convert_to_new,
+    convert_to_old: bolikwaru_convert_to_old,
 };
 
 /// Functions that do nothing.
@@ -79,6 +88,10 @@ pub const EMPTY: Functions = Functions {
     write_planned: write_nothing,
     add: add_nothing,
     drop: drop_nothing,
+    write_calls_with_cycle: write_nothing,
+    write_planned_with_cycle: write_nothing,
+    convert_to_new: convert_nothing,
+    convert_to_old: convert_nothing,
 };
 
 extern "C" {
@@ -145,6 +158,40 @@ extern "C" {
         calls_after_length: usize,
         settings_after: *mut u8,
         settings_after_length: usize,
+    ) -> Verdict;
+    fn bolikwaru_write_calls_with_cycle(
+        net: Network,
+        note: *const u8,
+        note_length: usize,
+        calls: *const u8,
+        calls_length: usize,
+        settings: *const u8,
+        settings_length: usize,
+        out: *mut u8,
+        out_length: usize,
+    ) -> Verdict;
+    fn bolikwaru_write_planned_with_cycle(
+        net: Network,
+        note: *const u8,
+        note_length: usize,
+        calls: *const u8,
+        calls_length: usize,
+        settings: *const u8,
+        settings_length: usize,
+        out: *mut u8,
+        out_length: usize,
+    ) -> Verdict;
+    fn bolikwaru_convert_to_new(
+        file: *const u8,
+        file_length: usize,
+        out: *mut u8,
+        out_length: usize,
+    ) -> Verdict;
+    fn bolikwaru_convert_to_old(
+        file: *const u8,
+        file_length: usize,
+        out: *mut u8,
+        out_length: usize,
     ) -> Verdict;
 }
 
@@ -213,6 +260,10 @@ extern "C" fn drop_nothing(
     Verdict::default()
 }
 
+extern "C" fn convert_nothing(_: *const u8, _: usize, _: *mut u8, _: usize) -> Verdict {
+    Verdict::default()
+}
+
 impl Entries for Functions {
     fn plan(&self, net: Network, calls: &[u8], settings: &mut [u8]) -> Planned {
         unsafe {
@@ -262,6 +313,38 @@ impl Entries for Functions {
         out: &mut [u8],
     ) -> Verdict {
         write(self.write_planned, net, [note, calls, settings], out)
+    }
+
+    fn write_calls_with_cycle(
+        &self,
+        net: Network,
+        note: &[u8],
+        calls: &[u8],
+        settings: &[u8],
+        out: &mut [u8],
+    ) -> Verdict {
+        let parts = [note, calls, settings];
+        write(self.write_calls_with_cycle, net, parts, out)
+    }
+
+    fn write_planned_with_cycle(
+        &self,
+        net: Network,
+        note: &[u8],
+        calls: &[u8],
+        settings: &[u8],
+        out: &mut [u8],
+    ) -> Verdict {
+        let parts = [note, calls, settings];
+        write(self.write_planned_with_cycle, net, parts, out)
+    }
+
+    fn convert_to_new(&self, file: &[u8], out: &mut [u8]) -> Verdict {
+        convert(self.convert_to_new, file, out)
+    }
+
+    fn convert_to_old(&self, file: &[u8], out: &mut [u8]) -> Verdict {
+        convert(self.convert_to_old, file, out)
     }
 
     fn add(
@@ -335,6 +418,10 @@ fn write(function: Write, net: Network, parts: [&[u8]; 3], out: &mut [u8]) -> Ve
     }
 }
 
+fn convert(function: Convert, file: &[u8], out: &mut [u8]) -> Verdict {
+    unsafe { function(file.as_ptr(), file.len(), out.as_mut_ptr(), out.len()) }
+}
+
 /// Entries in Rust that do nothing.
 pub struct Nothing;
 
@@ -364,6 +451,36 @@ impl Entries for Nothing {
     }
 
     fn drop(&self, _: Network, _: &[u8], _: &[u8], _: usize, _: [&mut [u8]; 2]) -> Verdict {
+        Verdict::default()
+    }
+
+    fn write_calls_with_cycle(
+        &self,
+        _: Network,
+        _: &[u8],
+        _: &[u8],
+        _: &[u8],
+        _: &mut [u8],
+    ) -> Verdict {
+        Verdict::default()
+    }
+
+    fn write_planned_with_cycle(
+        &self,
+        _: Network,
+        _: &[u8],
+        _: &[u8],
+        _: &[u8],
+        _: &mut [u8],
+    ) -> Verdict {
+        Verdict::default()
+    }
+
+    fn convert_to_new(&self, _: &[u8], _: &mut [u8]) -> Verdict {
+        Verdict::default()
+    }
+
+    fn convert_to_old(&self, _: &[u8], _: &mut [u8]) -> Verdict {
         Verdict::default()
     }
 }

@@ -1,7 +1,10 @@
-//! Inputs of the seven entries: what they are, the parts that they are made of, and drawn ones, the
+//! Inputs of the eleven entries: what they are, the parts that they are made of, and drawn ones, the
 //! same for the same seed. Of `plain.rs` only the planner is used, for drawn settings that are right.
-//! Inputs for single calls are drawn in `inputs/steps.rs`, on shelves drawn in `inputs/running.rs`.
+//! Inputs for single calls are drawn in `inputs/steps.rs`, on shelves drawn in `inputs/running.rs`;
+//! files of all kinds, to be read and converted, and what writes those that tell the cycle, in
+//! `inputs/files.rs`.
 
+mod files;
 mod running;
 mod steps;
 
@@ -9,10 +12,7 @@ pub use running::{draw_running, draw_thread, Running};
 
 use crate::ladders::{calls_of_pairs, path, rounds_and_ladder};
 use crate::plain::Plain;
-use crate::{
-    Entries, Network, CALL_BYTES, KIND_CALLS, KIND_PLANNED, LONGEST_NOTE, MARK, SETTING_BYTES,
-    TRAILER_BYTES,
-};
+use crate::{Entries, Kind, Network, CALL_BYTES, LONGEST_NOTE, MARK, SETTING_BYTES, TRAILER_BYTES};
 
 /// The entries. Their numbers in stored inputs are those of `stored_form.rs`.
 #[derive(Clone, Copy, PartialEq, Eq, Debug)]
@@ -24,10 +24,14 @@ pub enum Entry {
     WritePlanned,
     Add,
     Drop,
+    WriteCallsWithCycle,
+    WritePlannedWithCycle,
+    ConvertToNew,
+    ConvertToOld,
 }
 
 impl Entry {
-    pub const ALL: [Entry; 7] = [
+    pub const ALL: [Entry; 11] = [
         Entry::Plan,
         Entry::Accept,
         Entry::Read,
@@ -35,7 +39,21 @@ impl Entry {
         Entry::WritePlanned,
         Entry::Add,
         Entry::Drop,
+        Entry::WriteCallsWithCycle,
+        Entry::WritePlannedWithCycle,
+        Entry::ConvertToNew,
+        Entry::ConvertToOld,
     ];
+
+    /// The writer of a kind.
+    pub const fn writer_of(kind: Kind) -> Entry {
+        match kind {
+            Kind::Calls => Entry::WriteCalls,
+            Kind::Planned => Entry::WritePlanned,
+            Kind::CallsWithCycle => Entry::WriteCallsWithCycle,
+            Kind::PlannedWithCycle => Entry::WritePlannedWithCycle,
+        }
+    }
 }
 
 /// An input of one entry, with the bytes that a buffer to be written holds before.
@@ -54,14 +72,8 @@ pub enum Input {
     Read {
         file: Vec<u8>,
     },
-    WriteCalls {
-        net: Network,
-        note: Vec<u8>,
-        calls: Vec<u8>,
-        settings: Vec<u8>,
-        out: Vec<u8>,
-    },
-    WritePlanned {
+    Write {
+        kind: Kind,
         net: Network,
         note: Vec<u8>,
         calls: Vec<u8>,
@@ -85,6 +97,14 @@ pub enum Input {
         calls_after: Vec<u8>,
         settings_after: Vec<u8>,
     },
+    ConvertToNew {
+        file: Vec<u8>,
+        out: Vec<u8>,
+    },
+    ConvertToOld {
+        file: Vec<u8>,
+        out: Vec<u8>,
+    },
 }
 
 impl Input {
@@ -93,10 +113,11 @@ impl Input {
             Input::Plan { .. } => Entry::Plan,
             Input::Accept { .. } => Entry::Accept,
             Input::Read { .. } => Entry::Read,
-            Input::WriteCalls { .. } => Entry::WriteCalls,
-            Input::WritePlanned { .. } => Entry::WritePlanned,
+            Input::Write { kind, .. } => Entry::writer_of(*kind),
             Input::Add { .. } => Entry::Add,
             Input::Drop { .. } => Entry::Drop,
+            Input::ConvertToNew { .. } => Entry::ConvertToNew,
+            Input::ConvertToOld { .. } => Entry::ConvertToOld,
         }
     }
 }
@@ -130,17 +151,43 @@ pub fn settings_length(calls: &[u8]) -> usize {
 
 /// A file as the document lays it out, without any check; numbers too large for their bytes are
 /// cut.
-pub fn file_of(kind: usize, net: Network, note: &[u8], calls: &[u8], settings: &[u8]) -> Vec<u8> {
+pub fn file_of(kind: Kind, net: Network, note: &[u8], calls: &[u8], settings: &[u8]) -> Vec<u8> {
     let count = calls.len() / CALL_BYTES;
     let settings_distance = settings.len();
     let calls_distance = calls.len() + settings.len();
     let mut file = [note, calls, settings].concat();
+    if kind.tells_cycle() {
+        file.extend([net.w as u8, 0]);
+    }
     file.extend([net.n as u8, net.m as u8, net.r as u8, kind as u8]);
     for number in [count, settings_distance, calls_distance] {
         file.extend([(number >> 8) as u8, number as u8]);
     }
     file.extend(MARK);
     file
+}
+
+/// Bytes of the file of a kind with this note, these calls and these settings, which count only where
+/// the kind has some.
+pub fn file_length(kind: Kind, note: &[u8], calls: &[u8], settings: &[u8]) -> usize {
+    let rows = if kind.has_settings() {
+        calls.len() + settings.len()
+    } else {
+        calls.len()
+    };
+    note.len() + rows + kind.trailer_bytes()
+}
+
+/// The file with another byte in the place of its kind, which is the same in all files.
+pub fn with_kind_byte(mut file: Vec<u8>, byte: u8) -> Vec<u8> {
+    let twelve_at = file.len() - TRAILER_BYTES;
+    file[twelve_at + KIND_AT] = byte;
+    file
+}
+
+/// Bytes of the file that one of this kind is converted to.
+pub fn converted_length(kind: Kind, file: &[u8]) -> usize {
+    (file.len() + kind.converted().trailer_bytes()).saturating_sub(kind.trailer_bytes())
 }
 
 /// So many bytes, each filled by its place, so that a byte that is written is seen.
@@ -240,12 +287,19 @@ pub fn drawn_steps(seed: u64) -> impl Iterator<Item = Input> {
     std::iter::repeat_with(move || draw_step(&mut random))
 }
 
-/// Draws an input of any of the seven entries.
+/// Inputs that read or convert a file of any kind, or write one that tells the cycle, drawn one after
+/// the other, without end.
+pub fn drawn_of_files(seed: u64) -> impl Iterator<Item = Input> {
+    let mut random = Random::seeded(seed);
+    std::iter::repeat_with(move || draw_of_file(&mut random))
+}
+
+/// Draws an input of any of the eleven entries.
 pub fn draw(random: &mut Random) -> Input {
-    if random.below(10) < 4 {
-        draw_step(random)
-    } else {
-        draw_of_table(random, Cycles::Drawn)
+    match random.below(10) {
+        0..=2 => draw_step(random),
+        3..=6 => draw_of_table(random, Cycles::Drawn),
+        _ => draw_of_file(random),
     }
 }
 
@@ -258,14 +312,25 @@ fn draw_step(random: &mut Random) -> Input {
     }
 }
 
-/// Draws an input of planner, acceptance, reader or either writer.
+/// Draws an input of planner, acceptance or reader, or of a writer of kind 1 or 2.
 fn draw_of_table(random: &mut Random, cycles: Cycles) -> Input {
     match random.below(10) {
         0..=2 => draw_plan(random, cycles),
         3 | 4 => draw_accept(random, cycles),
         5 | 6 => draw_read(random, cycles),
-        7 => draw_write_calls(random, cycles),
-        _ => draw_write_planned(random, cycles),
+        7 => draw_write_calls(random, cycles, Kind::Calls),
+        _ => draw_write_planned(random, cycles, Kind::Planned),
+    }
+}
+
+/// Draws an input of the reader or of either conversion, or of a writer of kind 3 or 4.
+fn draw_of_file(random: &mut Random) -> Input {
+    match random.below(12) {
+        0..=2 => files::draw_read(random),
+        3 | 4 => files::draw_convert_to_new(random),
+        5..=7 => files::draw_convert_to_old(random),
+        8 | 9 => draw_write_calls(random, Cycles::Drawn, Kind::CallsWithCycle),
+        _ => draw_write_planned(random, Cycles::Drawn, Kind::PlannedWithCycle),
     }
 }
 
@@ -290,7 +355,8 @@ fn draw_accept(random: &mut Random, cycles: Cycles) -> Input {
     }
 }
 
-fn draw_write_calls(random: &mut Random, cycles: Cycles) -> Input {
+/// Draws an input of a writer of calls-only files.
+fn draw_write_calls(random: &mut Random, cycles: Cycles, kind: Kind) -> Input {
     let table = draw_table(random, cycles);
     let note = draw_note_to_write(random);
     let calls = draw_calls_length(random, table.calls);
@@ -299,8 +365,9 @@ fn draw_write_calls(random: &mut Random, cycles: Cycles) -> Input {
         1 => random.bytes(settings_length(&calls)),
         _ => Vec::new(),
     };
-    let needed = note.len() + calls.len() + TRAILER_BYTES;
-    Input::WriteCalls {
+    let needed = file_length(kind, &note, &calls, &settings);
+    Input::Write {
+        kind,
         net: draw_numbers(random, cycles, table.net),
         note,
         calls,
@@ -309,14 +376,16 @@ fn draw_write_calls(random: &mut Random, cycles: Cycles) -> Input {
     }
 }
 
-fn draw_write_planned(random: &mut Random, cycles: Cycles) -> Input {
+/// Draws an input of a writer of planned files.
+fn draw_write_planned(random: &mut Random, cycles: Cycles, kind: Kind) -> Input {
     let table = draw_table(random, cycles);
     let settings = draw_settings(random, &table);
     let note = draw_note_to_write(random);
     let calls = draw_calls_length(random, table.calls);
     let settings = draw_settings_length(random, settings);
-    let needed = note.len() + calls.len() + settings.len() + TRAILER_BYTES;
-    Input::WritePlanned {
+    let needed = file_length(kind, &note, &calls, &settings);
+    Input::Write {
+        kind,
         net: draw_numbers(random, cycles, table.net),
         note,
         calls,
@@ -752,14 +821,19 @@ fn draw_path(random: &mut Random) -> CallTable {
 
 // Settings.
 
-/// The planner's settings where it gives some, otherwise guessed ones; then damaged in no row, in
-/// one, or in two, or twice in one row.
-fn draw_settings(random: &mut Random, table: &CallTable) -> Vec<u8> {
-    let count = table.calls.len() / CALL_BYTES;
+/// The planner's settings where it gives some, otherwise guessed ones.
+fn made_settings(random: &mut Random, table: &CallTable) -> Vec<u8> {
     let mut settings = vec![0; settings_length(&table.calls)];
     if Plain.plan(table.net, &table.calls, &mut settings).number != 0 {
         settings = guessed_settings(random, table);
     }
+    settings
+}
+
+/// Settings that are made, then damaged in no row, in one, or in two, or twice in one row.
+fn draw_settings(random: &mut Random, table: &CallTable) -> Vec<u8> {
+    let count = table.calls.len() / CALL_BYTES;
+    let mut settings = made_settings(random, table);
     if count == 0 || random.once_in(3) {
         return settings;
     }
@@ -857,16 +931,16 @@ fn borrow_central(
 
 // Files.
 
-/// A file of either kind with or without faults in its rows, then damaged half of the time. Settings
+/// A file of kind 1 or 2 with or without faults in its rows, then damaged half of the time. Settings
 /// may be for another cycle than the one that the file is read with.
 fn draw_file(random: &mut Random, cycles: Cycles) -> Vec<u8> {
     let table = draw_table(random, cycles);
     let note = draw_note(random);
     let mut file = if random.once_in(2) {
-        file_of(KIND_CALLS, table.net, &note, &table.calls, &[])
+        file_of(Kind::Calls, table.net, &note, &table.calls, &[])
     } else {
         let settings = draw_settings(random, &table);
-        file_of(KIND_PLANNED, table.net, &note, &table.calls, &settings)
+        file_of(Kind::Planned, table.net, &note, &table.calls, &settings)
     };
     if random.once_in(2) {
         damage_file(random, &mut file);
@@ -874,14 +948,14 @@ fn draw_file(random: &mut Random, cycles: Cycles) -> Vec<u8> {
     file
 }
 
-/// Places in a trailer.
+/// Places in the last twelve bytes of a trailer.
 const KIND_AT: usize = 3;
 const COUNT_AT: usize = 4;
 const SETTINGS_DISTANCE_AT: usize = 6;
 const CALLS_DISTANCE_AT: usize = 8;
 const MARK_AT: usize = 10;
 
-/// Cuts a file, changes bytes of its trailer, or puts bytes before it or after it.
+/// Cuts a file, changes one of its last twelve bytes or two, or puts bytes before it or after it.
 fn damage_file(random: &mut Random, file: &mut Vec<u8>) {
     let length = file.len();
     let trailer_at = length - TRAILER_BYTES;

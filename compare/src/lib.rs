@@ -1,9 +1,10 @@
-//! Independent answers to the seven entries of the shelf's control, the text of its listing program,
+//! Independent answers to the eleven entries of the shelf's control, the text of its listing program,
 //! and the means to compare two implementations of the entries.
 //!
 //! Every answer here is written from the documents alone: the sentences of the scope document 01, its
 //! table of numbers and its bench table, and of document 02 request 1, by which the gratings have a
-//! cycle of their own, and request 2, by which single calls are added and dropped.
+//! cycle of their own, request 2, by which single calls are added and dropped, and request 3, by
+//! which plan files have the cycle in them.
 //!
 //! Answers: `plain.rs`, and for speed `swift.rs`. Judgements beside them: `light.rs` and
 //! `refusals.rs`. Inputs: `inputs.rs`, `ladders.rs` and `faulty.rs`. Stored inputs: which, in
@@ -81,20 +82,72 @@ pub const CALL_BYTES: usize = 4;
 pub const SETTING_BYTES: usize = 3;
 /// Bytes of a row's number, as an add tells the rows that it moved.
 pub const MOVED_BYTES: usize = 2;
-/// Bytes of the trailer of a plan file.
+/// Bytes of the trailer of a plan file that tells no cycle, and of the last part of every trailer.
 pub const TRAILER_BYTES: usize = 12;
+/// Bytes at the front of the trailer of a plan file that tells the cycle: W and a zero.
+pub const CYCLE_BYTES: usize = 2;
 /// The longest note of a plan file.
 pub const LONGEST_NOTE: usize = 255;
 /// The last two bytes of a plan file.
 pub const MARK: [u8; 2] = [0x41, 0x57];
-/// The kind of a file that holds calls only.
-pub const KIND_CALLS: usize = 1;
-/// The kind of a file that holds calls and settings.
-pub const KIND_PLANNED: usize = 2;
 /// Bytes of the longest plan file: the longest note, the most rows of calls and of settings, and the
-/// trailer.
+/// longer trailer.
 pub const LONGEST_FILE: usize =
-    LONGEST_NOTE + (CALL_BYTES + SETTING_BYTES) * Network::MOST_ROWS + TRAILER_BYTES;
+    LONGEST_NOTE + (CALL_BYTES + SETTING_BYTES) * Network::MOST_ROWS + TRAILER_BYTES + CYCLE_BYTES;
+
+/// The kinds of plan file, by their numbers. A kind is two facts: whether the file has settings, and
+/// whether it tells the cycle.
+#[derive(Clone, Copy, PartialEq, Eq, Debug)]
+pub enum Kind {
+    Calls = 1,
+    Planned = 2,
+    CallsWithCycle = 3,
+    PlannedWithCycle = 4,
+}
+
+impl Kind {
+    pub const ALL: [Kind; 4] = [
+        Kind::Calls,
+        Kind::Planned,
+        Kind::CallsWithCycle,
+        Kind::PlannedWithCycle,
+    ];
+    /// The kinds of the first issue, which tell no cycle.
+    pub const OLD: [Kind; 2] = [Kind::Calls, Kind::Planned];
+    /// The kinds that tell the cycle.
+    pub const NEW: [Kind; 2] = [Kind::CallsWithCycle, Kind::PlannedWithCycle];
+
+    pub const fn number(self) -> usize {
+        self as usize
+    }
+
+    pub const fn has_settings(self) -> bool {
+        matches!(self, Kind::Planned | Kind::PlannedWithCycle)
+    }
+
+    pub const fn tells_cycle(self) -> bool {
+        matches!(self, Kind::CallsWithCycle | Kind::PlannedWithCycle)
+    }
+
+    /// Bytes of the trailer.
+    pub const fn trailer_bytes(self) -> usize {
+        if self.tells_cycle() {
+            TRAILER_BYTES + CYCLE_BYTES
+        } else {
+            TRAILER_BYTES
+        }
+    }
+
+    /// What a file of this kind is converted to.
+    pub const fn converted(self) -> Kind {
+        match self {
+            Kind::Calls => Kind::CallsWithCycle,
+            Kind::Planned => Kind::PlannedWithCycle,
+            Kind::CallsWithCycle => Kind::Calls,
+            Kind::PlannedWithCycle => Kind::Planned,
+        }
+    }
+}
 
 /// The highest number of a refusal.
 pub const HIGHEST_NUMBER: usize = 18;
@@ -106,7 +159,7 @@ pub struct Refusal {
     pub row: usize,
 }
 
-/// The answer of acceptance, of a drop and of the two writers.
+/// The answer of acceptance, of a drop, of the four writers and of both conversions.
 #[derive(Clone, Copy, PartialEq, Eq, Default, Debug)]
 #[repr(C)]
 pub struct Verdict {
@@ -123,8 +176,8 @@ pub struct Planned {
     pub moved: usize,
 }
 
-/// The answer of the reader. All but number and row are 0 where the file is refused. The cycle is
-/// not told: it is the larger of r and m.
+/// The answer of the reader. All but number and row are 0 where the file is refused. Where the file
+/// has no place for the cycle, it is the larger of r and m.
 #[derive(Clone, Copy, PartialEq, Eq, Default, Debug)]
 #[repr(C)]
 pub struct Told {
@@ -133,6 +186,7 @@ pub struct Told {
     pub n: usize,
     pub m: usize,
     pub r: usize,
+    pub w: usize,
     pub kind: usize,
     pub count: usize,
     pub note_at: usize,
@@ -140,7 +194,7 @@ pub struct Told {
     pub settings_at: usize,
 }
 
-/// The seven entries. Numbers of any size and slices of any length and content are answered.
+/// The eleven entries. Numbers of any size and slices of any length and content are answered.
 pub trait Entries {
     /// Plans a call table, and writes its settings to the first 3K bytes of `settings`.
     fn plan(&self, net: Network, calls: &[u8], settings: &mut [u8]) -> Planned;
@@ -148,10 +202,10 @@ pub trait Entries {
     /// Judges given settings of a call table.
     fn accept(&self, net: Network, calls: &[u8], settings: &[u8]) -> Verdict;
 
-    /// Reads a plan file of either kind.
+    /// Reads a plan file of any kind.
     fn read(&self, file: &[u8]) -> Told;
 
-    /// Writes a calls-only file; the settings given have to be of no bytes.
+    /// Writes a calls-only file of kind 1; the settings given have to be of no bytes.
     fn write_calls(
         &self,
         net: Network,
@@ -161,7 +215,7 @@ pub trait Entries {
         out: &mut [u8],
     ) -> Verdict;
 
-    /// Writes a planned file.
+    /// Writes a planned file of kind 2.
     fn write_planned(
         &self,
         net: Network,
@@ -170,6 +224,33 @@ pub trait Entries {
         settings: &[u8],
         out: &mut [u8],
     ) -> Verdict;
+
+    /// Writes a calls-only file that tells the cycle, of kind 3; the settings given have to be of no
+    /// bytes.
+    fn write_calls_with_cycle(
+        &self,
+        net: Network,
+        note: &[u8],
+        calls: &[u8],
+        settings: &[u8],
+        out: &mut [u8],
+    ) -> Verdict;
+
+    /// Writes a planned file that tells the cycle, of kind 4.
+    fn write_planned_with_cycle(
+        &self,
+        net: Network,
+        note: &[u8],
+        calls: &[u8],
+        settings: &[u8],
+        out: &mut [u8],
+    ) -> Verdict;
+
+    /// Converts a file of kind 1 or 2 to one of kind 3 or 4, in the first bytes of `out`.
+    fn convert_to_new(&self, file: &[u8], out: &mut [u8]) -> Verdict;
+
+    /// Converts a file of kind 3 or 4 to one of kind 1 or 2, in the first bytes of `out`.
+    fn convert_to_old(&self, file: &[u8], out: &mut [u8]) -> Verdict;
 
     /// Adds a call to lawful settings by one step of the choice rule. The rooms are for the calls
     /// with the new one last, for the settings of all rows, and for the rows moved, in chain order:
@@ -193,4 +274,17 @@ pub trait Entries {
         row: usize,
         rooms: [&mut [u8]; 2],
     ) -> Verdict;
+
+    /// Writes a file of note, calls and settings by the writer of its kind.
+    fn write(&self, kind: Kind, net: Network, parts: [&[u8]; 3], out: &mut [u8]) -> Verdict {
+        let [note, calls, settings] = parts;
+        match kind {
+            Kind::Calls => self.write_calls(net, note, calls, settings, out),
+            Kind::Planned => self.write_planned(net, note, calls, settings, out),
+            Kind::CallsWithCycle => self.write_calls_with_cycle(net, note, calls, settings, out),
+            Kind::PlannedWithCycle => {
+                self.write_planned_with_cycle(net, note, calls, settings, out)
+            }
+        }
+    }
 }

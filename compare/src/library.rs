@@ -22,6 +22,7 @@ impl Entries for Library {
             n: told.n,
             m: told.m,
             r: told.r,
+            w: told.w,
             kind: told.kind,
             count: told.count,
             note_at: told.note_at,
@@ -62,6 +63,48 @@ impl Entries for Library {
             settings,
             out,
         ))
+    }
+
+    fn write_calls_with_cycle(
+        &self,
+        net: Network,
+        note: &[u8],
+        calls: &[u8],
+        settings: &[u8],
+        out: &mut [u8],
+    ) -> Verdict {
+        verdict(bolikwaru::write_calls_with_cycle(
+            network(net),
+            note,
+            calls,
+            settings,
+            out,
+        ))
+    }
+
+    fn write_planned_with_cycle(
+        &self,
+        net: Network,
+        note: &[u8],
+        calls: &[u8],
+        settings: &[u8],
+        out: &mut [u8],
+    ) -> Verdict {
+        verdict(bolikwaru::write_planned_with_cycle(
+            network(net),
+            note,
+            calls,
+            settings,
+            out,
+        ))
+    }
+
+    fn convert_to_new(&self, file: &[u8], out: &mut [u8]) -> Verdict {
+        verdict(bolikwaru::convert_to_new(file, out))
+    }
+
+    fn convert_to_old(&self, file: &[u8], out: &mut [u8]) -> Verdict {
+        verdict(bolikwaru::convert_to_old(file, out))
     }
 
     fn add(

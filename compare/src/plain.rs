@@ -3,8 +3,8 @@
 //! comes before speed.
 
 use crate::{
-    Entries, Network, Planned, Refusal, Told, Verdict, CALL_BYTES, KIND_CALLS, KIND_PLANNED,
-    LONGEST_FILE, LONGEST_NOTE, MARK, MOVED_BYTES, SETTING_BYTES, TRAILER_BYTES,
+    Entries, Kind, Network, Planned, Refusal, Told, Verdict, CALL_BYTES, CYCLE_BYTES, LONGEST_FILE,
+    LONGEST_NOTE, MARK, MOVED_BYTES, SETTING_BYTES, TRAILER_BYTES,
 };
 
 /// The reference implementation.
@@ -30,14 +30,7 @@ impl Entries for Plain {
     }
 
     fn read(&self, file: &[u8]) -> Told {
-        match try_read(file) {
-            Ok(told) => told,
-            Err(refusal) => Told {
-                number: refusal.number,
-                row: refusal.row,
-                ..Told::default()
-            },
-        }
+        read_taking(&Kind::ALL, file)
     }
 
     fn write_calls(
@@ -48,7 +41,7 @@ impl Entries for Plain {
         settings: &[u8],
         out: &mut [u8],
     ) -> Verdict {
-        verdict(try_write(KIND_CALLS, net, note, calls, settings, out))
+        verdict(try_write(Kind::Calls, net, [note, calls, settings], out))
     }
 
     fn write_planned(
@@ -59,7 +52,39 @@ impl Entries for Plain {
         settings: &[u8],
         out: &mut [u8],
     ) -> Verdict {
-        verdict(try_write(KIND_PLANNED, net, note, calls, settings, out))
+        verdict(try_write(Kind::Planned, net, [note, calls, settings], out))
+    }
+
+    fn write_calls_with_cycle(
+        &self,
+        net: Network,
+        note: &[u8],
+        calls: &[u8],
+        settings: &[u8],
+        out: &mut [u8],
+    ) -> Verdict {
+        let parts = [note, calls, settings];
+        verdict(try_write(Kind::CallsWithCycle, net, parts, out))
+    }
+
+    fn write_planned_with_cycle(
+        &self,
+        net: Network,
+        note: &[u8],
+        calls: &[u8],
+        settings: &[u8],
+        out: &mut [u8],
+    ) -> Verdict {
+        let parts = [note, calls, settings];
+        verdict(try_write(Kind::PlannedWithCycle, net, parts, out))
+    }
+
+    fn convert_to_new(&self, file: &[u8], out: &mut [u8]) -> Verdict {
+        verdict(try_convert(&Kind::OLD, file, out))
+    }
+
+    fn convert_to_old(&self, file: &[u8], out: &mut [u8]) -> Verdict {
+        verdict(try_convert(&Kind::NEW, file, out))
     }
 
     fn add(
@@ -103,6 +128,19 @@ impl Entries for Plain {
             write_front(settings_after, &without_row(settings, SETTING_BYTES, row));
         }
         verdict(answer)
+    }
+}
+
+/// What a reader tells that takes just these kinds: the reader of today takes all four, that of the
+/// first issue 1 and 2, and so meets the others with 14.
+pub fn read_taking(kinds: &[Kind], file: &[u8]) -> Told {
+    match try_read(kinds, file) {
+        Ok(parts) => parts.told(),
+        Err(refusal) => Told {
+            number: refusal.number,
+            row: refusal.row,
+            ..Told::default()
+        },
     }
 }
 
@@ -226,13 +264,12 @@ fn try_drop(
 }
 
 fn try_write(
-    kind: usize,
+    kind: Kind,
     net: Network,
-    note: &[u8],
-    calls: &[u8],
-    settings: &[u8],
+    parts: [&[u8]; 3],
     out: &mut [u8],
 ) -> Result<usize, Refusal> {
+    let [note, calls, settings] = parts;
     check_sizes(net)?;
     check_calls_length(calls)?;
     let rows = calls_of(calls);
@@ -241,43 +278,55 @@ fn try_write(
     if note.len() > LONGEST_NOTE {
         return refuse(16, 0);
     }
-    let file = file_bytes(kind, net, note, calls, settings);
+    let file = file_bytes(kind, net, parts);
     check_room(out.len(), file.len())?;
     check_calls(net, &rows)?;
-    if kind == KIND_PLANNED {
+    if kind.has_settings() {
         check_settings(net, &rows, &settings_of(settings))?;
     }
-    check_cycle_to_write(net)?;
-    out[..file.len()].copy_from_slice(&file);
+    if !kind.tells_cycle() {
+        check_cycle_of_sizes(net)?;
+    }
+    write_front(out, &file);
     Ok(rows.len())
 }
 
-fn try_read(file: &[u8]) -> Result<Told, Refusal> {
-    let trailer = take_trailer(file)?;
+/// Takes a file of these kinds apart.
+fn try_read<'a>(kinds: &[Kind], file: &'a [u8]) -> Result<FileParts<'a>, Refusal> {
+    let trailer = take_trailer(kinds, file)?;
     check_sizes(trailer.net)?;
     check_count(trailer.count)?;
-    let trailer_at = file.len() - TRAILER_BYTES;
+    let trailer_at = file.len() - trailer.kind.trailer_bytes();
     check_distances(&trailer, trailer_at)?;
     let calls_at = trailer_at - trailer.calls_distance;
     let settings_at = trailer_at - trailer.settings_distance;
-    let rows = calls_of(&file[calls_at..settings_at]);
-    check_calls(trailer.net, &rows)?;
-    if trailer.kind == KIND_PLANNED {
-        let settings = settings_of(&file[settings_at..trailer_at]);
-        check_settings(trailer.net, &rows, &settings)?;
-    }
-    Ok(Told {
-        number: 0,
-        row: trailer.count,
-        n: trailer.net.n,
-        m: trailer.net.m,
-        r: trailer.net.r,
+    let parts = FileParts {
+        net: trailer.net,
         kind: trailer.kind,
-        count: trailer.count,
-        note_at: 0,
-        calls_at,
-        settings_at,
-    })
+        note: &file[..calls_at],
+        calls: &file[calls_at..settings_at],
+        settings: &file[settings_at..trailer_at],
+    };
+    let rows = calls_of(parts.calls);
+    check_calls(parts.net, &rows)?;
+    if parts.kind.has_settings() {
+        check_settings(parts.net, &rows, &settings_of(parts.settings))?;
+    }
+    Ok(parts)
+}
+
+/// Writes what a file of these kinds has as a file of the kind that it is converted to.
+fn try_convert(kinds: &[Kind], file: &[u8], out: &mut [u8]) -> Result<usize, Refusal> {
+    let parts = try_read(kinds, file)?;
+    check_cycle_of_sizes(parts.net)?;
+    let converted = file_bytes(
+        parts.kind.converted(),
+        parts.net,
+        [parts.note, parts.calls, parts.settings],
+    );
+    check_room(out.len(), converted.len())?;
+    write_front(out, &converted);
+    Ok(parts.count())
 }
 
 // Answers.
@@ -423,7 +472,7 @@ fn check_room(room: usize, needed: usize) -> Result<(), Refusal> {
 }
 
 /// Refuses a cycle for which a file of kind 1 or 2 has no place.
-fn check_cycle_to_write(net: Network) -> Result<(), Refusal> {
+fn check_cycle_of_sizes(net: Network) -> Result<(), Refusal> {
     if net.w == net.r.max(net.m) {
         Ok(())
     } else {
@@ -654,19 +703,50 @@ fn settings_for(net: Network, calls: &[Call], centrals: &[usize]) -> Vec<Setting
 
 // The plan file.
 
-/// A trailer taken apart, with a mark and a kind that are right. The network's cycle is the larger of
-/// r and m, since the trailer states none.
+/// A trailer taken apart, with a mark, a kind and a spare byte that are right. Where it states no
+/// cycle, the network's is the larger of r and m.
 struct Trailer {
     net: Network,
-    kind: usize,
+    kind: Kind,
     count: usize,
     settings_distance: usize,
     calls_distance: usize,
 }
 
+/// What is in a file that isn't refused.
+struct FileParts<'a> {
+    net: Network,
+    kind: Kind,
+    note: &'a [u8],
+    calls: &'a [u8],
+    settings: &'a [u8],
+}
+
+impl FileParts<'_> {
+    fn count(&self) -> usize {
+        self.calls.len() / CALL_BYTES
+    }
+
+    fn told(&self) -> Told {
+        Told {
+            number: 0,
+            row: self.count(),
+            n: self.net.n,
+            m: self.net.m,
+            r: self.net.r,
+            w: self.net.w,
+            kind: self.kind.number(),
+            count: self.count(),
+            note_at: 0,
+            calls_at: self.note.len(),
+            settings_at: self.note.len() + self.calls.len(),
+        }
+    }
+}
+
 /// How far the first settings row stands before the trailer.
-fn settings_distance(kind: usize, count: usize) -> usize {
-    if kind == KIND_PLANNED {
+fn settings_distance(kind: Kind, count: usize) -> usize {
+    if kind.has_settings() {
         SETTING_BYTES * count
     } else {
         0
@@ -674,7 +754,7 @@ fn settings_distance(kind: usize, count: usize) -> usize {
 }
 
 /// How far the first call row stands before the trailer.
-fn calls_distance(kind: usize, count: usize) -> usize {
+fn calls_distance(kind: Kind, count: usize) -> usize {
     CALL_BYTES * count + settings_distance(kind, count)
 }
 
@@ -683,12 +763,13 @@ fn two_bytes(number: usize) -> [u8; 2] {
 }
 
 /// The bytes of a file. Sizes, K and lengths have been checked.
-fn file_bytes(kind: usize, net: Network, note: &[u8], calls: &[u8], settings: &[u8]) -> Vec<u8> {
+fn file_bytes(kind: Kind, net: Network, parts: [&[u8]; 3]) -> Vec<u8> {
+    let [_, calls, _] = parts;
     let count = calls.len() / CALL_BYTES;
-    let mut file = Vec::new();
-    file.extend(note);
-    file.extend(calls);
-    file.extend(settings);
+    let mut file = parts.concat();
+    if kind.tells_cycle() {
+        file.extend([net.w as u8, 0]);
+    }
     file.extend([net.n as u8, net.m as u8, net.r as u8, kind as u8]);
     file.extend(two_bytes(count));
     file.extend(two_bytes(settings_distance(kind, count)));
@@ -697,24 +778,45 @@ fn file_bytes(kind: usize, net: Network, note: &[u8], calls: &[u8], settings: &[
     file
 }
 
-fn take_trailer(file: &[u8]) -> Result<Trailer, Refusal> {
+/// Takes the trailer of a file of these kinds apart. Whatever the kind, its last twelve bytes are
+/// alike.
+fn take_trailer(kinds: &[Kind], file: &[u8]) -> Result<Trailer, Refusal> {
     if file.len() < TRAILER_BYTES {
         return refuse(14, 0);
     }
     let bytes = &file[file.len() - TRAILER_BYTES..];
     let number_at = |at: usize| 256 * usize::from(bytes[at]) + usize::from(bytes[at + 1]);
-    let kind = usize::from(bytes[3]);
-    if bytes[10..] != MARK || (kind != KIND_CALLS && kind != KIND_PLANNED) {
-        return refuse(14, 0);
-    }
+    let taken = kinds.iter().find(|&&kind| kind as u8 == bytes[3]);
+    let kind = match taken {
+        Some(&kind) if bytes[10..] == MARK => kind,
+        _ => return refuse(14, 0),
+    };
     let [n, m, r] = [bytes[0], bytes[1], bytes[2]].map(usize::from);
+    let of_sizes = Network::of_sizes(n, m, r);
+    let net = if kind.tells_cycle() {
+        of_sizes.with_cycle(take_cycle(file)?)
+    } else {
+        of_sizes
+    };
     Ok(Trailer {
-        net: Network::of_sizes(n, m, r),
+        net,
         kind,
         count: number_at(4),
         settings_distance: number_at(6),
         calls_distance: number_at(8),
     })
+}
+
+/// W, which stands with a zero behind it before the last twelve bytes.
+fn take_cycle(file: &[u8]) -> Result<usize, Refusal> {
+    if file.len() < CYCLE_BYTES + TRAILER_BYTES {
+        return refuse(14, 0);
+    }
+    let cycle_at = file.len() - TRAILER_BYTES - CYCLE_BYTES;
+    match file[cycle_at..cycle_at + CYCLE_BYTES] {
+        [w, 0] => Ok(usize::from(w)),
+        _ => refuse(14, 0),
+    }
 }
 
 /// Refuses distances that are not as stated, or more than the file holds before its trailer, or
@@ -744,22 +846,21 @@ pub fn listing(file: &[u8]) -> Vec<u8> {
     text.into_bytes()
 }
 
-/// The listing of a file that isn't refused. Calls only are planned; a planned file has been
-/// accepted when it was read, and is listed with the settings it holds.
+/// The listing of a file that isn't refused. Calls only are planned, by the cycle that the file
+/// tells; a planned file has been accepted when it was read, and is listed with the settings it
+/// holds.
 fn try_list(file: &[u8]) -> Result<String, Refusal> {
-    let told = try_read(file)?;
-    let net = Network::of_sizes(told.n, told.m, told.r);
-    let calls = &file[told.calls_at..told.settings_at];
-    let (moved, settings) = if told.kind == KIND_CALLS {
-        let plan = try_plan(net, calls, SETTING_BYTES * told.count)?;
-        (plan.moved().to_string(), plan.settings)
+    let parts = try_read(&Kind::ALL, file)?;
+    let net = parts.net;
+    let (moved, settings) = if parts.kind.has_settings() {
+        ("-".to_string(), settings_of(parts.settings))
     } else {
-        let trailer_at = file.len() - TRAILER_BYTES;
-        let settings = settings_of(&file[told.settings_at..trailer_at]);
-        ("-".to_string(), settings)
+        let plan = try_plan(net, parts.calls, SETTING_BYTES * parts.count())?;
+        (plan.moved().to_string(), plan.settings)
     };
-    let mut text = format!("{} {} {} {} {}\n", net.n, net.m, net.r, told.count, moved);
-    for (row, (call, setting)) in calls_of(calls).iter().zip(&settings).enumerate() {
+    let count = parts.count();
+    let mut text = format!("{} {} {} {} {}\n", net.n, net.m, net.r, count, moved);
+    for (row, (call, setting)) in calls_of(parts.calls).iter().zip(&settings).enumerate() {
         text.push_str(&row_line(row, call, setting));
     }
     Ok(text)

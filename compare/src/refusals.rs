@@ -1,35 +1,48 @@
 //! Which refusals apply to an input, each judged by its own sentence of document 01 or of requests
-//! 1 and 2 of document 02, and which of them is owed by the order of the entry. This is a judgement
+//! 1, 2 and 3 of document 02, and which of them is owed by the order of the entry. This is a judgement
 //! of its own beside `plain.rs`, of which it uses nothing: it leans on the forms of `inputs.rs` and
 //! on the constants of the package.
 
 use crate::inputs::Input;
 use crate::{
-    Network, Refusal, CALL_BYTES, KIND_CALLS, KIND_PLANNED, LONGEST_NOTE, MARK, MOVED_BYTES,
+    Kind, Network, Refusal, CALL_BYTES, CYCLE_BYTES, LONGEST_NOTE, MARK, MOVED_BYTES,
     SETTING_BYTES, TRAILER_BYTES,
 };
 
 // The order of refusals.
 
-/// The entries for whole tables, the reader once for each kind of file.
+/// The entries for whole tables and for files: the reader and the conversions once for each kind of
+/// file that they take, and the writer of each kind.
 #[derive(Clone, Copy, PartialEq, Eq, Debug)]
 pub enum Asked {
     Plan,
     Accept,
-    ReadCalls,
-    ReadPlanned,
-    WriteCalls,
-    WritePlanned,
+    Read(Kind),
+    Write(Kind),
+    Convert(Kind),
 }
 
 impl Asked {
-    pub const ALL: [Asked; 6] = [
+    /// The entries that deal with no file of kind 3 or 4.
+    pub const OF_TABLES: [Asked; 6] = [
         Asked::Plan,
         Asked::Accept,
-        Asked::ReadCalls,
-        Asked::ReadPlanned,
-        Asked::WriteCalls,
-        Asked::WritePlanned,
+        Asked::Read(Kind::Calls),
+        Asked::Read(Kind::Planned),
+        Asked::Write(Kind::Calls),
+        Asked::Write(Kind::Planned),
+    ];
+
+    /// The entries that read, write or make a file of kind 3 or 4, or make another of it.
+    pub const OF_NEW_FILES: [Asked; 8] = [
+        Asked::Read(Kind::CallsWithCycle),
+        Asked::Read(Kind::PlannedWithCycle),
+        Asked::Write(Kind::CallsWithCycle),
+        Asked::Write(Kind::PlannedWithCycle),
+        Asked::Convert(Kind::Calls),
+        Asked::Convert(Kind::Planned),
+        Asked::Convert(Kind::CallsWithCycle),
+        Asked::Convert(Kind::PlannedWithCycle),
     ];
 
     /// The refusals that the entry can give, in the documents' order.
@@ -37,10 +50,21 @@ impl Asked {
         match self {
             Asked::Plan => &[1, 2, 3, 4, 5, 6, 7, 8],
             Asked::Accept => &[1, 2, 3, 5, 6, 7, 9, 10, 11, 12, 13],
-            Asked::ReadCalls => &[14, 1, 3, 15, 5, 6, 7],
-            Asked::ReadPlanned => &[14, 1, 3, 15, 5, 6, 7, 9, 10, 11, 12, 13],
-            Asked::WriteCalls => &[1, 2, 3, 16, 4, 5, 6, 7, 18],
-            Asked::WritePlanned => &[1, 2, 3, 16, 4, 5, 6, 7, 9, 10, 11, 12, 13, 18],
+            Asked::Read(Kind::Calls | Kind::CallsWithCycle) => &[14, 1, 3, 15, 5, 6, 7],
+            Asked::Read(Kind::Planned | Kind::PlannedWithCycle) => {
+                &[14, 1, 3, 15, 5, 6, 7, 9, 10, 11, 12, 13]
+            }
+            Asked::Write(Kind::Calls) => &[1, 2, 3, 16, 4, 5, 6, 7, 18],
+            Asked::Write(Kind::Planned) => &[1, 2, 3, 16, 4, 5, 6, 7, 9, 10, 11, 12, 13, 18],
+            Asked::Write(Kind::CallsWithCycle) => &[1, 2, 3, 16, 4, 5, 6, 7],
+            Asked::Write(Kind::PlannedWithCycle) => &[1, 2, 3, 16, 4, 5, 6, 7, 9, 10, 11, 12, 13],
+            // 18 comes before 4 for these two too, but no file of theirs has it.
+            Asked::Convert(Kind::Calls) => &[14, 1, 3, 15, 5, 6, 7, 4],
+            Asked::Convert(Kind::Planned) => &[14, 1, 3, 15, 5, 6, 7, 9, 10, 11, 12, 13, 4],
+            Asked::Convert(Kind::CallsWithCycle) => &[14, 1, 3, 15, 5, 6, 7, 18, 4],
+            Asked::Convert(Kind::PlannedWithCycle) => {
+                &[14, 1, 3, 15, 5, 6, 7, 9, 10, 11, 12, 13, 18, 4]
+            }
         }
     }
 }
@@ -101,11 +125,12 @@ pub fn owed_refusal(input: &Input) -> Option<Refusal> {
         Input::Plan { .. } => owed_by(Asked::Plan),
         Input::Accept { .. } => owed_by(Asked::Accept),
         // A file of calls only never has those that come in addition.
-        Input::Read { .. } => owed_by(Asked::ReadPlanned),
-        Input::WriteCalls { .. } => owed_by(Asked::WriteCalls),
-        Input::WritePlanned { .. } => owed_by(Asked::WritePlanned),
+        Input::Read { .. } => owed_by(Asked::Read(Kind::PlannedWithCycle)),
+        Input::Write { kind, .. } => owed_by(Asked::Write(*kind)),
         Input::Add { .. } => owed_after_acceptance(Step::Add),
         Input::Drop { .. } => owed_after_acceptance(Step::Drop),
+        Input::ConvertToNew { .. } => owed_by(Asked::Convert(Kind::Planned)),
+        Input::ConvertToOld { .. } => owed_by(Asked::Convert(Kind::PlannedWithCycle)),
     }
 }
 
@@ -114,7 +139,8 @@ pub fn owed_refusal(input: &Input) -> Option<Refusal> {
 /// All refusals that apply to an input, each judged by its own sentence alone, as if no other were
 /// tried before it; for a single call those of acceptance of what is given. One is left out only
 /// where it can't be judged: rows and distances of a file without a trailer or without a known
-/// kind, rows that a file doesn't hold, and 9 to 13 where the cycle is 0.
+/// kind, rows that a file doesn't hold, 9 to 13 where the cycle is 0, and the room of a conversion
+/// for a file of a kind that it doesn't take.
 pub fn applying_refusals(input: &Input) -> Vec<Refusal> {
     match input {
         Input::Plan {
@@ -139,21 +165,17 @@ pub fn applying_refusals(input: &Input) -> Vec<Refusal> {
             settings,
             ..
         } => of_accept(*net, calls, settings),
-        Input::Read { file } => of_read(file),
-        Input::WriteCalls {
+        Input::Read { file } => of_file(file, &[1, 2, 3, 4]),
+        Input::Write {
+            kind,
             net,
             note,
             calls,
             settings,
             out,
-        } => of_write_calls(*net, note, calls, settings, out.len()),
-        Input::WritePlanned {
-            net,
-            note,
-            calls,
-            settings,
-            out,
-        } => of_write_planned(*net, note, calls, settings, out.len()),
+        } => of_write(*kind, *net, [note, calls, settings], out.len()),
+        Input::ConvertToNew { file, out } => of_conversion(file, &[1, 2], out.len()),
+        Input::ConvertToOld { file, out } => of_conversion(file, &[3, 4], out.len()),
     }
 }
 
@@ -267,69 +289,71 @@ fn of_accept(net: Network, calls: &[u8], settings: &[u8]) -> Vec<Refusal> {
     list
 }
 
-fn of_write_calls(
-    net: Network,
-    note: &[u8],
-    calls: &[u8],
-    settings: &[u8],
-    room: usize,
-) -> Vec<Refusal> {
+fn of_calls_alone(net: Network, calls: &[u8], settings: &[u8]) -> Vec<Refusal> {
     let count = calls.len() / CALL_BYTES;
     let mut list = Vec::new();
     add_if(&mut list, 1, sizes_are_outside(net));
     let not_whole = calls.len() % CALL_BYTES != 0 || !settings.is_empty();
     add_if(&mut list, 2, not_whole);
     add_if(&mut list, 3, count > Network::MOST_ROWS);
-    add_if(&mut list, 16, note.len() > LONGEST_NOTE);
-    let needed = note.len() + CALL_BYTES * count + TRAILER_BYTES;
-    add_if(&mut list, 4, room < needed);
     add_call_refusals(&mut list, net, calls);
-    add_if(&mut list, 18, has_no_place_in_files(net));
     list
 }
 
-fn of_write_planned(
-    net: Network,
-    note: &[u8],
-    calls: &[u8],
-    settings: &[u8],
-    room: usize,
-) -> Vec<Refusal> {
+fn of_write(kind: Kind, net: Network, parts: [&[u8]; 3], room: usize) -> Vec<Refusal> {
+    let [note, calls, settings] = parts;
     let count = calls.len() / CALL_BYTES;
-    let mut list = of_accept(net, calls, settings);
+    let (mut list, row_bytes) = match kind {
+        Kind::Calls | Kind::CallsWithCycle => (of_calls_alone(net, calls, settings), CALL_BYTES),
+        Kind::Planned | Kind::PlannedWithCycle => {
+            (of_accept(net, calls, settings), CALL_BYTES + SETTING_BYTES)
+        }
+    };
     add_if(&mut list, 16, note.len() > LONGEST_NOTE);
-    let needed = note.len() + (CALL_BYTES + SETTING_BYTES) * count + TRAILER_BYTES;
-    add_if(&mut list, 4, room < needed);
-    add_if(&mut list, 18, has_no_place_in_files(net));
+    let needed = note.len() + row_bytes * count + TRAILER_BYTES;
+    match kind {
+        Kind::Calls | Kind::Planned => {
+            add_if(&mut list, 4, room < needed);
+            add_if(&mut list, 18, has_no_place_in_files(net));
+        }
+        Kind::CallsWithCycle | Kind::PlannedWithCycle => {
+            add_if(&mut list, 4, room < needed + CYCLE_BYTES);
+        }
+    }
     list
 }
 
-fn of_read(file: &[u8]) -> Vec<Refusal> {
+/// Those of a reader that takes files of these kinds.
+fn of_file(file: &[u8], taken: &[u8]) -> Vec<Refusal> {
     let mut list = Vec::new();
-    if file.len() < TRAILER_BYTES {
-        add_if(&mut list, 14, true);
-        return list;
-    }
-    let (body, trailer) = file.split_at(file.len() - TRAILER_BYTES);
-    let number_at = |at: usize| usize::from(u16::from_be_bytes([trailer[at], trailer[at + 1]]));
-    let size_at = |at: usize| usize::from(trailer[at]);
-    let net = Network::of_sizes(size_at(0), size_at(1), size_at(2));
-    let count = number_at(4);
-    let kind = usize::from(trailer[3]);
-    let is_planned = kind == KIND_PLANNED;
-    let has_kind = kind == KIND_CALLS || is_planned;
-    add_if(&mut list, 14, trailer[10..] != MARK || !has_kind);
+    let last = match LastBytes::of(file) {
+        Some(last) => last,
+        None => {
+            add_if(&mut list, 14, true);
+            return list;
+        }
+    };
+    let lacks_trailer = last.twelve[10..] != MARK
+        || !taken.contains(&last.kind())
+        || last.is_short
+        || last.two.map_or(false, |[_, spare]| spare != 0);
+    let net = last.net();
+    let count = last.number_at(4);
+    add_if(&mut list, 14, lacks_trailer);
     add_if(&mut list, 1, sizes_are_outside(net));
     add_if(&mut list, 3, count > Network::MOST_ROWS);
-    if !has_kind {
+    if last.is_short || !(1..=4).contains(&last.kind()) {
         return list;
     }
+    let is_planned = last.kind() % 2 == 0;
     let calls_length = CALL_BYTES * count;
     let settings_length = if is_planned { SETTING_BYTES * count } else { 0 };
     let rows_length = calls_length + settings_length;
-    let not_as_stated = number_at(6) != settings_length || number_at(8) != rows_length;
-    let not_held = number_at(8) > body.len();
-    let note_too_long = number_at(8) + LONGEST_NOTE < body.len();
+    let body = last.body;
+    let distances = [last.number_at(6), last.number_at(8)];
+    let not_as_stated = distances != [settings_length, rows_length];
+    let not_held = distances[1] > body.len();
+    let note_too_long = distances[1] + LONGEST_NOTE < body.len();
     add_if(&mut list, 15, not_as_stated || not_held || note_too_long);
     if rows_length <= body.len() {
         let calls_at = body.len() - rows_length;
@@ -340,6 +364,71 @@ fn of_read(file: &[u8]) -> Vec<Refusal> {
         }
     }
     list
+}
+
+/// Those of a conversion that takes files of these kinds: to new ones it adds two bytes, to old ones
+/// it takes two away.
+fn of_conversion(file: &[u8], taken: &[u8], room: usize) -> Vec<Refusal> {
+    let mut list = of_file(file, taken);
+    if let Some(last) = LastBytes::of(file) {
+        if taken.contains(&last.kind()) && !last.is_short {
+            add_if(&mut list, 18, has_no_place_in_files(last.net()));
+            let has_two = last.two.is_some();
+            let is_short = if has_two {
+                room + CYCLE_BYTES < file.len()
+            } else {
+                room < file.len() + CYCLE_BYTES
+            };
+            add_if(&mut list, 4, is_short);
+        }
+    }
+    list
+}
+
+/// The last twelve bytes of a file; for a kind that has them, the two bytes before these, unless the
+/// file is too short; and all that stands before.
+struct LastBytes<'a> {
+    body: &'a [u8],
+    two: Option<[u8; CYCLE_BYTES]>,
+    twelve: &'a [u8],
+    is_short: bool,
+}
+
+impl<'a> LastBytes<'a> {
+    /// None of a file under twelve bytes.
+    fn of(file: &'a [u8]) -> Option<LastBytes<'a>> {
+        let front_length = file.len().checked_sub(TRAILER_BYTES)?;
+        let (front, twelve) = file.split_at(front_length);
+        let has_two = twelve[3] == 3 || twelve[3] == 4;
+        let (body, two) = match front {
+            [body @ .., w, spare] if has_two => (body, Some([*w, *spare])),
+            _ => (front, None),
+        };
+        Some(LastBytes {
+            body,
+            two,
+            twelve,
+            is_short: has_two && two.is_none(),
+        })
+    }
+
+    fn kind(&self) -> u8 {
+        self.twelve[3]
+    }
+
+    fn number_at(&self, at: usize) -> usize {
+        usize::from(u16::from_be_bytes([self.twelve[at], self.twelve[at + 1]]))
+    }
+
+    /// The three sizes, with W where it stands, or else with the larger of r and m.
+    fn net(&self) -> Network {
+        let [n, m, r] = [0, 1, 2].map(|at| usize::from(self.twelve[at]));
+        let of_sizes = Network::of_sizes(n, m, r);
+        match self.two {
+            Some([w, _]) => of_sizes.with_cycle(usize::from(w)),
+            None => of_sizes,
+        }
+    }
 }
 
 // Single refusals.

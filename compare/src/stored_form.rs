@@ -4,16 +4,18 @@
 //! An input has a head of 53 bytes: the entry by one byte; n, m, r, w and the row to be dropped by
 //! eight bytes each; the lengths of note, calls, settings, room, second room and third room by two
 //! bytes each; all with the high byte first. The bytes of these six follow. The entries are 0 plan,
-//! 1 accept, 2 read, 3 write_calls, 4 write_planned, 5 list, 6 add and 7 drop. The row is 0 where
-//! none is to be dropped. A file to be read or listed stands in the place of the calls, and has
+//! 1 accept, 2 read, 3 write_calls, 4 write_planned, 5 list, 6 add, 7 drop, 8 write_calls_with_cycle,
+//! 9 write_planned_with_cycle, 10 convert_to_new and 11 convert_to_old. The row is 0 where none is to
+//! be dropped. A file to be read, converted or listed stands in the place of the calls, and has
 //! zeros for the network; the settings that the planner is to write stand in the place of the room.
 //! The call to be added stands in the place of the note, and the rooms of an add and of a drop are
 //! those for the calls, for the settings and for the rows moved.
 //!
 //! The answer is a line: the numbers, each with a space after it, then the bytes of the rooms as
-//! they are afterwards, one room after the other, by two hexadecimal digits each. For a file to be
-//! listed the numbers are the length of the text and how many bytes of its buffer beyond the text
-//! were changed, which is always 0, and the bytes are those of the text.
+//! they are afterwards, one room after the other, by two hexadecimal digits each. The numbers of a
+//! read are number, row, n, m, r, w, kind, K, and where note, calls and settings begin. For a file
+//! to be listed the numbers are the length of the text and how many bytes of its buffer beyond the
+//! text were changed, which is always 0, and the bytes are those of the text.
 
 use crate::comparison::answer_of;
 use crate::inputs::{Entry, Input};
@@ -21,7 +23,7 @@ use crate::plain::{listing, Plain};
 use crate::Network;
 use std::fmt::Write;
 
-/// A stored input: of one of the seven entries, or a file for the listing program, which is no entry.
+/// A stored input: of one of the eleven entries, or a file for the listing program, which is no entry.
 #[derive(Clone, PartialEq, Eq, Debug)]
 pub enum Stored {
     Input(Input),
@@ -41,6 +43,10 @@ fn number_of(entry: Entry) -> u8 {
         Entry::WritePlanned => 4,
         Entry::Add => 6,
         Entry::Drop => 7,
+        Entry::WriteCallsWithCycle => 8,
+        Entry::WritePlannedWithCycle => 9,
+        Entry::ConvertToNew => 10,
+        Entry::ConvertToOld => 11,
     }
 }
 
@@ -102,19 +108,13 @@ fn parts_of(stored: &Stored) -> Parts<'_> {
             ..no_bytes(entry, *net)
         },
         Input::Read { file } => parts_of_file(entry, file),
-        Input::WriteCalls {
+        Input::Write {
             net,
             note,
             calls,
             settings,
             out,
-        }
-        | Input::WritePlanned {
-            net,
-            note,
-            calls,
-            settings,
-            out,
+            ..
         } => Parts {
             note,
             calls,
@@ -150,6 +150,10 @@ fn parts_of(stored: &Stored) -> Parts<'_> {
             settings,
             rooms: [calls_after, settings_after, &[]],
             ..no_bytes(entry, *net)
+        },
+        Input::ConvertToNew { file, out } | Input::ConvertToOld { file, out } => Parts {
+            rooms: [out, &[], &[]],
+            ..parts_of_file(entry, file)
         },
     }
 }
@@ -222,10 +226,12 @@ pub fn stored_files(inputs: &[Stored]) -> (Vec<u8>, String) {
 #[cfg(test)]
 mod tests {
     use super::*;
+    use crate::Kind;
 
     #[test]
     fn heads_hold_whole_sizes_and_cycles() {
-        let input = Input::WritePlanned {
+        let input = Input::Write {
+            kind: Kind::Planned,
             net: Network::of_sizes(3, 1 << 63, 65_537).with_cycle((1 << 32) + 5),
             note: vec![7],
             calls: vec![8; 258],
@@ -277,6 +283,44 @@ mod tests {
         assert_eq!(bytes[41..53], [0, 0, 0, 4, 0, 3, 0, 1, 0, 2, 0, 0]);
         assert_eq!(bytes[53..], [0, 0, 0, 0, 0, 0, 0, 7, 8, 9]);
         assert_eq!(stored_answer(&stored), "17 0 070809\n");
+    }
+
+    /// A file without rows: read, written and converted.
+    #[test]
+    fn files_that_tell_the_cycle_are_stored() {
+        let file = vec![2, 0, 1, 1, 1, 3, 0, 0, 0, 0, 0, 0, 0x41, 0x57];
+        let read = Stored::Input(Input::Read { file: file.clone() });
+        assert_eq!(stored_answer(&read), "0 0 1 1 1 2 3 0 0 0 0 \n");
+        let write = Stored::Input(Input::Write {
+            kind: Kind::CallsWithCycle,
+            net: Network::of_sizes(1, 1, 1).with_cycle(2),
+            note: vec![],
+            calls: vec![],
+            settings: vec![],
+            out: vec![9; 15],
+        });
+        let bytes = stored_input(&write).expect("every length fits two bytes");
+        assert_eq!(bytes[0], 8);
+        assert_eq!(
+            stored_answer(&write),
+            "0 0 020001010103000000000000415709\n"
+        );
+        for (to_new, number) in [(true, 10), (false, 11)] {
+            let (file, out) = (file.clone(), vec![7, 8]);
+            let input = if to_new {
+                Input::ConvertToNew { file, out }
+            } else {
+                Input::ConvertToOld { file, out }
+            };
+            let bytes = stored_input(&Stored::Input(input)).expect("every length fits two bytes");
+            assert_eq!(bytes[..41], [&[number][..], &[0; 40]].concat());
+            assert_eq!(bytes[41..53], [0, 0, 0, 14, 0, 0, 0, 2, 0, 0, 0, 0]);
+            assert_eq!(
+                bytes[53..67],
+                [2, 0, 1, 1, 1, 3, 0, 0, 0, 0, 0, 0, 0x41, 0x57]
+            );
+            assert_eq!(bytes[67..], [7, 8]);
+        }
     }
 
     #[test]

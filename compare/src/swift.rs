@@ -2,11 +2,12 @@
 //! module of each side and each central, a chain that finds its next row by reading the rows placed
 //! so far from row 0 up, and marks for inlets, outlets and pairs. A single call is added in one pass
 //! over the rows for the use of its two modules, and where it needs a chain in one more for the rows
-//! on the two centrals. Everything stands on the stack.
+//! on the two centrals. A file is converted by copying it in one piece up to its trailer. Everything
+//! stands on the stack.
 
 use crate::{
-    Entries, Network, Planned, Refusal, Told, Verdict, CALL_BYTES, KIND_CALLS, KIND_PLANNED,
-    LONGEST_NOTE, MARK, MOVED_BYTES, SETTING_BYTES, TRAILER_BYTES,
+    Entries, Kind, Network, Planned, Refusal, Told, Verdict, CALL_BYTES, CYCLE_BYTES, LONGEST_NOTE,
+    MARK, MOVED_BYTES, SETTING_BYTES, TRAILER_BYTES,
 };
 
 /// The swift implementation.
@@ -29,14 +30,27 @@ impl Entries for Swift {
     }
 
     fn read(&self, file: &[u8]) -> Told {
-        match check_read(file) {
-            Ok(told) => told,
+        match check_file(&Kind::ALL, file) {
+            Ok(found) => Told {
+                number: 0,
+                row: found.count,
+                n: found.net.n,
+                m: found.net.m,
+                r: found.net.r,
+                w: found.net.w,
+                kind: found.kind.number(),
+                count: found.count,
+                note_at: 0,
+                calls_at: found.calls_at,
+                settings_at: found.settings_at,
+            },
             Err(refusal) => Told {
                 number: refusal.number,
                 row: refusal.row,
                 n: 0,
                 m: 0,
                 r: 0,
+                w: 0,
                 kind: 0,
                 count: 0,
                 note_at: 0,
@@ -54,7 +68,7 @@ impl Entries for Swift {
         settings: &[u8],
         out: &mut [u8],
     ) -> Verdict {
-        into_verdict(write(KIND_CALLS, net, note, calls, settings, out))
+        into_verdict(write(Kind::Calls, net, [note, calls, settings], out))
     }
 
     fn write_planned(
@@ -65,7 +79,39 @@ impl Entries for Swift {
         settings: &[u8],
         out: &mut [u8],
     ) -> Verdict {
-        into_verdict(write(KIND_PLANNED, net, note, calls, settings, out))
+        into_verdict(write(Kind::Planned, net, [note, calls, settings], out))
+    }
+
+    fn write_calls_with_cycle(
+        &self,
+        net: Network,
+        note: &[u8],
+        calls: &[u8],
+        settings: &[u8],
+        out: &mut [u8],
+    ) -> Verdict {
+        let parts = [note, calls, settings];
+        into_verdict(write(Kind::CallsWithCycle, net, parts, out))
+    }
+
+    fn write_planned_with_cycle(
+        &self,
+        net: Network,
+        note: &[u8],
+        calls: &[u8],
+        settings: &[u8],
+        out: &mut [u8],
+    ) -> Verdict {
+        let parts = [note, calls, settings];
+        into_verdict(write(Kind::PlannedWithCycle, net, parts, out))
+    }
+
+    fn convert_to_new(&self, file: &[u8], out: &mut [u8]) -> Verdict {
+        into_verdict(convert(&Kind::OLD, file, out))
+    }
+
+    fn convert_to_old(&self, file: &[u8], out: &mut [u8]) -> Verdict {
+        into_verdict(convert(&Kind::NEW, file, out))
     }
 
     fn add(
@@ -210,25 +256,60 @@ fn copy_without(room: &mut [u8], table: &[u8], length: usize, row: usize) {
     append(append(room, before), &rest[length..]);
 }
 
-fn check_read(file: &[u8]) -> Result<Told, Refusal> {
+/// What a file that has passed all refusals of the reader tells, and where its trailer begins.
+struct Found {
+    net: Network,
+    kind: Kind,
+    count: usize,
+    calls_at: usize,
+    settings_at: usize,
+    trailer_at: usize,
+}
+
+/// The places of W and of the zero, of the kind, K, both distances and the mark, counted from the
+/// last twelve bytes of a file or from its last fourteen.
+const CYCLE_AT: usize = 0;
+const SPARE_AT: usize = 1;
+const KIND_AT: usize = 3;
+const COUNT_AT: usize = 4;
+const SETTINGS_DISTANCE_AT: usize = 6;
+const CALLS_DISTANCE_AT: usize = 8;
+const MARK_AT: usize = 10;
+
+/// All refusals of a reader that takes these kinds.
+fn check_file(kinds: &[Kind], file: &[u8]) -> Result<Found, Refusal> {
     if file.len() < TRAILER_BYTES {
         return refuse(14, 0);
     }
-    let trailer_at = file.len() - TRAILER_BYTES;
-    let (body, trailer) = file.split_at(trailer_at);
-    let kind = usize::from(trailer[3]);
-    if trailer[10..] != MARK || (kind != KIND_CALLS && kind != KIND_PLANNED) {
-        return refuse(14, 0);
+    let (front, twelve) = file.split_at(file.len() - TRAILER_BYTES);
+    let taken = kinds.iter().find(|&&kind| kind as u8 == twelve[KIND_AT]);
+    let kind = match taken {
+        Some(&kind) if twelve[MARK_AT..] == MARK => kind,
+        _ => return refuse(14, 0),
+    };
+    let [n, m, r] = [twelve[0], twelve[1], twelve[2]].map(usize::from);
+    let mut net = Network::of_sizes(n, m, r);
+    let mut body = front;
+    if kind.tells_cycle() {
+        if front.len() < CYCLE_BYTES {
+            return refuse(14, 0);
+        }
+        let (before, two) = front.split_at(front.len() - CYCLE_BYTES);
+        if two[SPARE_AT] != 0 {
+            return refuse(14, 0);
+        }
+        net.w = usize::from(two[CYCLE_AT]);
+        body = before;
     }
-    let [n, m, r] = [trailer[0], trailer[1], trailer[2]].map(usize::from);
-    let net = Network::of_sizes(n, m, r);
     check_sizes(net)?;
-    let count = two_byte_number(trailer[4], trailer[5]);
+    let number_at = |at: usize| two_byte_number(twelve[at], twelve[at + 1]);
+    let count = number_at(COUNT_AT);
     check_count(count)?;
     let settings_bytes = settings_bytes_of(kind, count);
     let row_bytes = CALL_BYTES * count + settings_bytes;
-    let as_stated = two_byte_number(trailer[6], trailer[7]) == settings_bytes
-        && two_byte_number(trailer[8], trailer[9]) == row_bytes;
+    let as_stated = number_at(SETTINGS_DISTANCE_AT) == settings_bytes
+        && number_at(CALLS_DISTANCE_AT) == row_bytes;
+    let trailer_at = body.len();
     if !as_stated || row_bytes > trailer_at || trailer_at - row_bytes > LONGEST_NOTE {
         return refuse(15, 0);
     }
@@ -236,31 +317,41 @@ fn check_read(file: &[u8]) -> Result<Told, Refusal> {
     let settings_at = trailer_at - settings_bytes;
     let calls = &body[calls_at..settings_at];
     check_calls(net, calls)?;
-    if kind == KIND_PLANNED {
+    if kind.has_settings() {
         check_settings(net, calls, &body[settings_at..])?;
     }
-    Ok(Told {
-        number: 0,
-        row: count,
-        n: net.n,
-        m: net.m,
-        r: net.r,
+    Ok(Found {
+        net,
         kind,
         count,
-        note_at: 0,
         calls_at,
         settings_at,
+        trailer_at,
     })
 }
 
-fn write(
-    kind: usize,
-    net: Network,
-    note: &[u8],
-    calls: &[u8],
-    settings: &[u8],
-    out: &mut [u8],
-) -> Result<usize, Refusal> {
+/// Writes a file of these kinds as the kind that it is converted to: all before the trailer as it
+/// is, W and a zero if the new file tells them, and the last twelve bytes with another kind.
+fn convert(kinds: &[Kind], file: &[u8], out: &mut [u8]) -> Result<usize, Refusal> {
+    let found = check_file(kinds, file)?;
+    if found.net.cycle() != found.net.least_cycle() {
+        return refuse(18, 0);
+    }
+    let kind = found.kind.converted();
+    if out.len() < found.trailer_at + kind.trailer_bytes() {
+        return refuse(4, 0);
+    }
+    let mut rest = append(out, &file[..found.trailer_at]);
+    if kind.tells_cycle() {
+        rest = append(rest, &[found.net.w as u8, 0]);
+    }
+    append(rest, &file[file.len() - TRAILER_BYTES..]);
+    rest[KIND_AT] = kind as u8;
+    Ok(found.count)
+}
+
+fn write(kind: Kind, net: Network, parts: [&[u8]; 3], out: &mut [u8]) -> Result<usize, Refusal> {
+    let [note, calls, settings] = parts;
     check_sizes(net)?;
     let count = count_of(calls)?;
     if settings.len() != settings_bytes_of(kind, count) {
@@ -271,21 +362,24 @@ fn write(
         return refuse(16, 0);
     }
     let row_bytes = calls.len() + settings.len();
-    if out.len() < note.len() + row_bytes + TRAILER_BYTES {
+    if out.len() < note.len() + row_bytes + kind.trailer_bytes() {
         return refuse(4, 0);
     }
     check_calls(net, calls)?;
-    if kind == KIND_PLANNED {
+    if kind.has_settings() {
         check_settings(net, calls, settings)?;
     }
-    if net.cycle() != net.least_cycle() {
+    if !kind.tells_cycle() && net.cycle() != net.least_cycle() {
         return refuse(18, 0);
     }
-    let rest = append(append(append(out, note), calls), settings);
+    let mut rest = append(append(append(out, note), calls), settings);
+    if kind.tells_cycle() {
+        rest = append(rest, &[net.w as u8, 0]);
+    }
     let [count_high, count_low] = two_bytes(count);
     let [settings_high, settings_low] = two_bytes(settings.len());
     let [calls_high, calls_low] = two_bytes(row_bytes);
-    let trailer = [
+    let twelve = [
         net.n as u8,
         net.m as u8,
         net.r as u8,
@@ -299,7 +393,7 @@ fn write(
         MARK[0],
         MARK[1],
     ];
-    append(rest, &trailer);
+    append(rest, &twelve);
     Ok(count)
 }
 
@@ -318,8 +412,8 @@ fn two_byte_number(high: u8, low: u8) -> usize {
     usize::from(high) << 8 | usize::from(low)
 }
 
-fn settings_bytes_of(kind: usize, count: usize) -> usize {
-    if kind == KIND_PLANNED {
+fn settings_bytes_of(kind: Kind, count: usize) -> usize {
+    if kind.has_settings() {
         SETTING_BYTES * count
     } else {
         0

@@ -6,13 +6,11 @@ use crate::ladders::{
     LARGEST_TIGHT, LONGEST_THREAD,
 };
 use crate::swift::Swift;
-use crate::{
-    Entries, Network, Planned, Verdict, CALL_BYTES, KIND_CALLS, KIND_PLANNED, MOVED_BYTES,
-    SETTING_BYTES,
-};
+use crate::{Entries, Kind, Network, Planned, Verdict, CALL_BYTES, MOVED_BYTES, SETTING_BYTES};
 
-/// A table with the settings that the planner gives it, how many calls it moves, and both files;
-/// and for adding its last call, the calls before it with settings, and how many of these it moves.
+/// A table with the settings that the planner gives it, how many calls it moves, and its file of each
+/// kind; and for adding its last call, the calls before it with settings, and how many of these it
+/// moves.
 pub struct Table {
     pub name: &'static str,
     pub net: Network,
@@ -22,6 +20,8 @@ pub struct Table {
     pub moved_by_last: usize,
     calls_file: Vec<u8>,
     planned_file: Vec<u8>,
+    calls_file_with_cycle: Vec<u8>,
+    planned_file_with_cycle: Vec<u8>,
     before: Running,
 }
 
@@ -53,11 +53,15 @@ impl Table {
         let mut settings = vec![0; settings_length(&calls)];
         let planned = Swift.plan(net, &calls, &mut settings);
         assert_eq!(planned.number, 0, "{} can be planned", name);
+        let calls_file = |kind: Kind| file_of(kind, net, &NOTE, &calls, &[]);
+        let planned_file = |kind: Kind| file_of(kind, net, &NOTE, &calls, &settings);
         let mut table = Table {
             name,
             net,
-            calls_file: file_of(KIND_CALLS, net, &NOTE, &calls, &[]),
-            planned_file: file_of(KIND_PLANNED, net, &NOTE, &calls, &settings),
+            calls_file: calls_file(Kind::Calls),
+            planned_file: planned_file(Kind::Planned),
+            calls_file_with_cycle: calls_file(Kind::CallsWithCycle),
+            planned_file_with_cycle: planned_file(Kind::PlannedWithCycle),
             calls,
             settings,
             moved: planned.moved,
@@ -123,7 +127,7 @@ pub const LARGEST_ROOM: usize =
 pub type Timed = (&'static str, fn(&dyn Entries, &Table, &mut [u8]) -> usize);
 
 /// The calls that are timed. Each answers the number that it was given, and none is refused.
-pub const TIMED: [Timed; 9] = [
+pub const TIMED: [Timed; 15] = [
     ("plan", |entries, table, room| {
         entries.plan(table.net, &table.calls, room).number
     }),
@@ -156,6 +160,30 @@ pub const TIMED: [Timed; 9] = [
     }),
     ("drop the last call", |entries, table, room| {
         drop_row(entries, table, table.count() - 1, room).number
+    }),
+    ("read, calls with cycle", |entries, table, _| {
+        entries.read(&table.calls_file_with_cycle).number
+    }),
+    ("read, planned with cycle", |entries, table, _| {
+        entries.read(&table.planned_file_with_cycle).number
+    }),
+    ("write_calls_with_cycle", |entries, table, room| {
+        entries
+            .write_calls_with_cycle(table.net, &NOTE, &table.calls, &[], room)
+            .number
+    }),
+    ("write_planned_with_cycle", |entries, table, room| {
+        entries
+            .write_planned_with_cycle(table.net, &NOTE, &table.calls, &table.settings, room)
+            .number
+    }),
+    ("convert_to_new, planned", |entries, table, room| {
+        entries.convert_to_new(&table.planned_file, room).number
+    }),
+    ("convert_to_old, planned", |entries, table, room| {
+        entries
+            .convert_to_old(&table.planned_file_with_cycle, room)
+            .number
     }),
 ];
 

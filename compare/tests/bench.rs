@@ -1,9 +1,9 @@
 //! The plain implementation on the bench table and on the example file of document 01, with the
-//! answers as they stand there; then on single calls added and dropped, whose answers follow from the
-//! bench table or are worked out by hand.
+//! answers as they stand there; then on the same example in a file that tells the cycle, and on single
+//! calls added and dropped, whose answers follow from the bench table or are worked out by hand.
 
-use compare::plain::{listing, Plain};
-use compare::{Entries, Network, Planned, Told, Verdict, LONGEST_FILE};
+use compare::plain::{listing, read_taking, Plain};
+use compare::{Entries, Kind, Network, Planned, Told, Verdict, LONGEST_FILE};
 
 const CASE_3: [u8; 16] = [0, 0, 0, 0, 1, 0, 1, 0, 1, 1, 0, 1, 0, 1, 1, 1];
 const CASE_4: [u8; 16] = [0, 0, 0, 0, 0, 1, 1, 0, 1, 0, 2, 0, 1, 1, 1, 1];
@@ -103,6 +103,7 @@ fn example_file_is_read_and_written() {
         n: 2,
         m: 2,
         r: 3,
+        w: 3,
         kind: 1,
         count: 4,
         note_at: 0,
@@ -130,9 +131,125 @@ fn example_file_is_listed() {
 
 #[test]
 fn files_longer_than_the_longest_are_too_long() {
-    assert_eq!(LONGEST_FILE, 7435);
+    assert_eq!(LONGEST_FILE, 7437);
     assert_eq!(listing(&[0; 7435]), b"refused 14 row 0\n");
-    assert_eq!(listing(&[0; 7436]), b"too long\n");
+    assert_eq!(listing(&[0; 7437]), b"refused 14 row 0\n");
+    assert_eq!(listing(&[0; 7438]), b"too long\n");
+}
+
+// Files that tell the cycle.
+
+/// Case 4 of the bench table as a file of kind 3 with five wavelengths, and its trailer.
+const TRAILER_BY_FIVE: [u8; 14] = [5, 0, 2, 2, 3, 3, 0, 4, 0, 0, 0, 0x10, 0x41, 0x57];
+
+fn case_4_by_five() -> Vec<u8> {
+    [&CASE_4[..], &TRAILER_BY_FIVE].concat()
+}
+
+const FIVE_TOLD: Told = Told {
+    number: 0,
+    row: 4,
+    n: 2,
+    m: 2,
+    r: 3,
+    w: 5,
+    kind: 3,
+    count: 4,
+    note_at: 0,
+    calls_at: 0,
+    settings_at: 16,
+};
+
+/// A refused read tells zero for all but number and row.
+fn refused_read(number: usize) -> Told {
+    Told {
+        number,
+        ..Told::default()
+    }
+}
+
+#[test]
+fn case_4_by_five_is_written_and_read() {
+    let net = network(2, 2, 3).with_cycle(5);
+    let mut out = [77; 32];
+    let answer = Plain.write_calls_with_cycle(net, &[], &CASE_4, &[], &mut out);
+    assert_eq!(answer, Verdict { number: 0, row: 4 });
+    assert_eq!(out[..30], case_4_by_five());
+    assert_eq!(out[30..], [77, 77]);
+    assert_eq!(Plain.read(&out[..30]), FIVE_TOLD);
+    assert_eq!(Plain.read(&TRAILER_BY_FIVE[1..]), refused_read(14));
+    assert_eq!(Plain.read(&TRAILER_BY_FIVE), refused_read(15));
+    let answer = Plain.write_calls_with_cycle(net, &[], &CASE_4, &[], &mut out[..29]);
+    assert_eq!(answer, Verdict { number: 4, row: 0 });
+}
+
+/// The cycle is not printed, and the settings are those of the example, since no sum goes beyond its
+/// three wavelengths.
+#[test]
+fn case_4_by_five_is_listed() {
+    let trailer = [2, 2, 3, 1, 0, 4, 0, 0, 0, 0x10, 0x41, 0x57];
+    let example = [&CASE_4[..], &trailer].concat();
+    assert_eq!(listing(&case_4_by_five()), listing(&example));
+}
+
+/// The reader of the first issue reads the example file and refuses the other.
+#[test]
+fn the_first_issue_meets_new_kinds_with_14() {
+    let trailer = [2, 2, 3, 1, 0, 4, 0, 0, 0, 0x10, 0x41, 0x57];
+    let example = [&CASE_4[..], &trailer].concat();
+    assert_eq!(read_taking(&Kind::OLD, &example), Plain.read(&example));
+    assert_eq!(read_taking(&Kind::OLD, &case_4_by_five()), refused_read(14));
+}
+
+#[test]
+fn the_example_file_is_converted_there_and_back() {
+    let trailer = [2, 2, 3, 1, 0, 4, 0, 0, 0, 0x10, 0x41, 0x57];
+    let example = [&CASE_4[..], &trailer].concat();
+    let mut new = [77; 31];
+    let answer = Plain.convert_to_new(&example, &mut new);
+    assert_eq!(answer, Verdict { number: 0, row: 4 });
+    let owed = [3, 0, 2, 2, 3, 3, 0, 4, 0, 0, 0, 0x10, 0x41, 0x57, 77];
+    assert_eq!(new, [&CASE_4[..], &owed].concat()[..]);
+    let mut old = [77; 29];
+    let answer = Plain.convert_to_old(&new[..30], &mut old);
+    assert_eq!(answer, Verdict { number: 0, row: 4 });
+    assert_eq!(old, [&example[..], &[77]].concat()[..]);
+}
+
+/// A conversion that is refused, which leaves its room as it is.
+fn assert_not_converted(
+    convert: impl Fn(&[u8], &mut [u8]) -> Verdict,
+    file: &[u8],
+    room: usize,
+    number: usize,
+) {
+    let mut out = vec![77; room];
+    assert_eq!(convert(file, &mut out), Verdict { number, row: 0 });
+    assert_eq!(out, vec![77; room]);
+}
+
+#[test]
+fn conversions_are_refused() {
+    let to_new = |file: &[u8], out: &mut [u8]| Plain.convert_to_new(file, out);
+    let to_old = |file: &[u8], out: &mut [u8]| Plain.convert_to_old(file, out);
+    let by_five = case_4_by_five();
+    // 14 for a kind that isn't taken; 18 before 4.
+    assert_not_converted(to_new, &by_five, 40, 14);
+    assert_not_converted(to_old, &by_five, 28, 18);
+    assert_not_converted(to_old, &by_five, 0, 18);
+    // 4, by a byte.
+    let mut by_three = by_five;
+    by_three[16] = 3;
+    assert_not_converted(to_old, &by_three, 27, 4);
+    // 1 before 18: W below r, and above 64.
+    for cycle in [2, 65] {
+        by_three[16] = cycle;
+        assert_not_converted(to_old, &by_three, 28, 1);
+    }
+    // 14 before 1: the spare byte.
+    by_three[17] = 1;
+    assert_not_converted(to_old, &by_three, 28, 14);
+    assert_eq!(Plain.read(&by_three), refused_read(14));
 }
 
 // Single calls.

@@ -14,7 +14,7 @@ const DRAWN: usize = if cfg!(debug_assertions) {
 };
 
 /// The numbers that each entry can give.
-const GIVEN: [(Entry, &[usize]); 7] = [
+const GIVEN: [(Entry, &[usize]); 11] = [
     (Entry::Plan, &[0, 1, 2, 3, 4, 5, 6, 7, 8]),
     (Entry::Accept, &[0, 1, 2, 3, 5, 6, 7, 9, 10, 11, 12, 13]),
     (Entry::Read, &[0, 14, 1, 3, 15, 5, 6, 7, 9, 10, 11, 12, 13]),
@@ -27,6 +27,19 @@ const GIVEN: [(Entry, &[usize]); 7] = [
     (
         Entry::Drop,
         &[0, 1, 2, 3, 5, 6, 7, 9, 10, 11, 12, 13, 17, 4],
+    ),
+    (Entry::WriteCallsWithCycle, &[0, 1, 2, 3, 16, 4, 5, 6, 7]),
+    (
+        Entry::WritePlannedWithCycle,
+        &[0, 1, 2, 3, 16, 4, 5, 6, 7, 9, 10, 11, 12, 13],
+    ),
+    (
+        Entry::ConvertToNew,
+        &[0, 14, 1, 3, 15, 5, 6, 7, 9, 10, 11, 12, 13, 4],
+    ),
+    (
+        Entry::ConvertToOld,
+        &[0, 14, 1, 3, 15, 5, 6, 7, 9, 10, 11, 12, 13, 18, 4],
     ),
 ];
 

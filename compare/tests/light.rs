@@ -1,8 +1,8 @@
-//! Acceptance and planner of the plain implementation against the light: settings are accepted
-//! exactly when they are lawful, and lawful settings are planned exactly where no module has more
-//! calls than there are centrals.
+//! Acceptance, reader and planner of the plain implementation against the light: settings are
+//! accepted, and planned files read, exactly when they are lawful, and lawful settings are planned
+//! exactly where no module has more calls than there are centrals.
 
-use compare::inputs::{call_of, drawn_of_tables, settings_length, Input};
+use compare::inputs::{call_of, drawn_of_files, drawn_of_tables, settings_length, Input};
 use compare::ladders::calls_of_pairs;
 use compare::light::{follow, lawful, lawful_by_marks, shared, Link, Path};
 use compare::plain::Plain;
@@ -320,6 +320,64 @@ fn drawn_settings_are_accepted_when_they_are_lawful() {
     assert!(accepted > DRAWN / 50 && refused > DRAWN / 50);
     assert!(with_spare_ports > DRAWN / 100, "{}", with_spare_ports);
     assert!(lost.iter().all(|&count| count > DRAWN / 200), "{:?}", lost);
+}
+
+/// The settings of a file of kind 2 or 4 are judged by the light with the cycle that the file tells.
+#[test]
+fn planned_files_are_read_when_their_settings_are_lawful() {
+    let mut read = [0; 2];
+    let mut with_spare_ports = 0;
+    let mut refused = 0;
+    for input in drawn_of_files(13).take(DRAWN) {
+        let file = match input {
+            Input::Read { file } | Input::ConvertToOld { file, .. } => file,
+            _ => continue,
+        };
+        let told = Plain.read(&file);
+        match told.number {
+            0 if told.kind == 2 || told.kind == 4 => {
+                let net = Network {
+                    n: told.n,
+                    m: told.m,
+                    r: told.r,
+                    w: told.w,
+                };
+                let calls = &file[told.calls_at..told.settings_at];
+                let settings = &file[told.settings_at..][..SETTING_BYTES * told.count];
+                assert!(lawful_by_marks(net, calls, settings));
+                read[told.kind / 2 - 1] += 1;
+                with_spare_ports += usize::from(net.cycle() > net.least_cycle());
+            }
+            9..=13 => {
+                let (net, calls, settings) = planned_parts(&file);
+                assert!(!lawful_by_marks(net, calls, settings));
+                refused += 1;
+            }
+            _ => {}
+        }
+    }
+    assert!(read.iter().all(|&count| count > DRAWN / 200), "{:?}", read);
+    assert!(with_spare_ports > DRAWN / 100, "{}", with_spare_ports);
+    assert!(refused > DRAWN / 50, "{}", refused);
+}
+
+/// The network and the rows of a planned file whose trailer and distances are in order, by its bytes
+/// from the end.
+fn planned_parts(file: &[u8]) -> (Network, &[u8], &[u8]) {
+    let (front, twelve) = file.split_at(file.len() - 12);
+    let [n, m, r] = [twelve[0], twelve[1], twelve[2]].map(usize::from);
+    let of_sizes = Network::of_sizes(n, m, r);
+    let (body, net) = match twelve[3] {
+        4 => {
+            let (body, two) = front.split_at(front.len() - 2);
+            (body, of_sizes.with_cycle(usize::from(two[0])))
+        }
+        _ => (front, of_sizes),
+    };
+    let count = usize::from(u16::from_be_bytes([twelve[4], twelve[5]]));
+    let rows = &body[body.len() - (CALL_BYTES + SETTING_BYTES) * count..];
+    let (calls, settings) = rows.split_at(CALL_BYTES * count);
+    (net, calls, settings)
 }
 
 // Overfull modules.

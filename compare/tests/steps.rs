@@ -1,7 +1,7 @@
 //! Independent checks of a call added and a call dropped, by the plain implementation: against its
 //! planner, against the light, and against the choice rule read off the table before.
 
-use compare::inputs::{drawn, setting_of, Input, Running};
+use compare::inputs::{drawn_of_tables, drawn_steps, setting_of, Input, Running};
 use compare::ladders::{
     largest_thread, thread, thread_modules, thread_pair, LARGEST_SPARE, LONGEST_THREAD,
 };
@@ -42,7 +42,7 @@ fn add(
 #[test]
 fn adds_from_an_empty_table_are_the_planner() {
     let mut moved = 0;
-    for input in drawn(31).take(DRAWN) {
+    for input in drawn_of_tables(31).take(DRAWN / 2) {
         if let Input::Plan { net, calls, .. } = input {
             let mut planned = vec![0; 3 * (calls.len() / 4)];
             let owed = Plain.plan(net, &calls, &mut planned);
@@ -133,7 +133,7 @@ fn drawn_adds_are_single_steps_and_lawful() {
     let mut kinds = [0; 6];
     let mut not_the_planners = 0;
     let mut with_spare_ports = 0;
-    for input in drawn(32).take(DRAWN) {
+    for input in drawn_steps(32).take(DRAWN / 2) {
         if let Input::Add {
             net,
             calls,
@@ -168,7 +168,7 @@ fn drawn_adds_are_single_steps_and_lawful() {
 #[test]
 fn drawn_drops_leave_lawful_settings() {
     let mut dropped = 0;
-    for input in drawn(33).take(DRAWN) {
+    for input in drawn_steps(33).take(DRAWN / 2) {
         if let Input::Drop {
             net,
             calls,
@@ -202,7 +202,7 @@ fn drawn_drops_leave_lawful_settings() {
 #[test]
 fn adds_do_not_depend_on_the_cycle() {
     let mut compared = 0;
-    for input in drawn(34).take(DRAWN) {
+    for input in drawn_steps(34).take(DRAWN / 2) {
         if let Input::Add {
             net,
             calls,

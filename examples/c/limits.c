@@ -58,11 +58,11 @@ static size_t number_with_settings_room(size_t room) {
     return bolikwaru_plan(largest, calls, 4 * BOLIKWARU_MOST_CALLS, settings_room, room).number;
 }
 
-/* The most calls with their settings, and the longest note. */
+/* The most calls with their settings, the longest note, and the longer trailer. */
 static size_t number_with_file_room(size_t room) {
     bolikwaru_plan(largest, calls, 4 * BOLIKWARU_MOST_CALLS, settings, sizeof settings);
-    return bolikwaru_write_planned(largest, note, BOLIKWARU_MOST_NOTE, calls, 4 * BOLIKWARU_MOST_CALLS,
-                                   settings, 3 * BOLIKWARU_MOST_CALLS, file, room).number;
+    return bolikwaru_write_planned_with_cycle(largest, note, BOLIKWARU_MOST_NOTE, calls, 4 * BOLIKWARU_MOST_CALLS,
+                                              settings, 3 * BOLIKWARU_MOST_CALLS, file, room).number;
 }
 
 /* The last call of the most is added. */
@@ -92,6 +92,17 @@ static size_t kind_of_planned(void) {
     bolikwaru_plan(largest, calls, 4, settings, sizeof settings);
     bolikwaru_write_planned(largest, NULL, 0, calls, 4, settings, 3, file, sizeof file);
     return bolikwaru_read(file, 4 + 3 + 12).kind;
+}
+
+static size_t kind_of_calls_with_cycle(void) {
+    bolikwaru_write_calls_with_cycle(largest, NULL, 0, calls, 4, NULL, 0, file, sizeof file);
+    return bolikwaru_read(file, 4 + 14).kind;
+}
+
+static size_t kind_of_planned_with_cycle(void) {
+    bolikwaru_plan(largest, calls, 4, settings, sizeof settings);
+    bolikwaru_write_planned_with_cycle(largest, NULL, 0, calls, 4, settings, 3, file, sizeof file);
+    return bolikwaru_read(file, 4 + 3 + 14).kind;
 }
 
 /* Prints what came back, and what is owed if that is something else. */
@@ -153,5 +164,7 @@ int main(void) {
                 number_with_moved_room, 4);
     check_kind("CALLS_ONLY", kind_of_calls_only(), BOLIKWARU_CALLS_ONLY);
     check_kind("PLANNED", kind_of_planned(), BOLIKWARU_PLANNED);
+    check_kind("CALLS_WITH_CYCLE", kind_of_calls_with_cycle(), BOLIKWARU_CALLS_WITH_CYCLE);
+    check_kind("PLANNED_WITH_CYCLE", kind_of_planned_with_cycle(), BOLIKWARU_PLANNED_WITH_CYCLE);
     return off;
 }

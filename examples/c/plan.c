@@ -40,11 +40,11 @@ int main(void) {
 
     const bolikwaru_told told = bolikwaru_read(file, file_length);
     printf("read: number %zu row %zu\n", told.number, told.row);
-    printf("told: n %zu m %zu r %zu kind %zu count %zu\n", told.n, told.m, told.r, told.kind, told.count);
+    printf("told: n %zu m %zu r %zu w %zu kind %zu count %zu\n", told.n, told.m, told.r, told.w, told.kind, told.count);
     printf("told: note at %zu, calls at %zu, settings at %zu\n", told.note_at, told.calls_at, told.settings_at);
 
     /* Two modules, two centrals, and gratings of two ports; then gratings of three, with a spare one. Settings for one cycle are
-       none for the other, and a file has no place for a cycle that is not the larger of r and m. */
+       none for the other, and a file of kind 2 has no place for a cycle that is not the larger of r and m. */
     const uint8_t crossed[] = {0, 0, 0, 0, /**/ 1, 0, 1, 0, /**/ 1, 1, 0, 1, /**/ 0, 1, 1, 1};
     const bolikwaru_network tight = bolikwaru_of_sizes(2, 2, 2);
     const bolikwaru_network spare = {2, 2, 2, 3};

@@ -1,8 +1,8 @@
 //! The shelf's control for Rust: plans settings, judges settings, adds and drops single calls,
-//! reads and writes plan files. The answers come from a library that is proved right for all
-//! inputs; here slices are handed over and nothing else happens. The numbers are those of the table
-//! in `README.md`; 0 is success, and any other number is a refusal, which changes no byte of any
-//! buffer.
+//! reads, writes and converts plan files. The answers come from a library that is proved right for
+//! all inputs; here slices are handed over and nothing else happens. The numbers are those of the
+//! table in `README.md`; 0 is success, and any other number is a refusal, which changes no byte of
+//! any buffer.
 //!
 //! The library is for x86-64 Linux. It allocates nothing and keeps nothing between calls. A call
 //! takes stack, at most 8,696 bytes where it was measured (`docs/BENCHMARKS.md`).
@@ -45,8 +45,10 @@ pub struct Planned {
     pub moved: usize,
 }
 
-/// What a plan file tells: the network's sizes, the kind (1 calls only, 2 planned), K, and where
-/// note, calls and settings begin. A refused file tells 0 for all but number and row.
+/// What a plan file tells: the network with its cycle, the kind, K, and where note, calls and
+/// settings begin. The kinds are 1 (calls only), 2 (planned), and 3 and 4, the same with the cycle
+/// in the file; for kinds 1 and 2 w is the larger of r and m. A refused file tells 0 for all but
+/// number and row.
 #[derive(Clone, Copy, PartialEq, Eq, Debug)]
 #[repr(C)]
 pub struct Told {
@@ -55,6 +57,7 @@ pub struct Told {
     pub n: usize,
     pub m: usize,
     pub r: usize,
+    pub w: usize,
     pub kind: usize,
     pub count: usize,
     pub note_at: usize,
@@ -134,6 +137,44 @@ mod library {
             calls_length: usize,
             settings: *const u8,
             settings_length: usize,
+            out: *mut u8,
+            out_length: usize,
+        ) -> Verdict;
+
+        pub fn bolikwaru_write_calls_with_cycle(
+            net: Network,
+            note: *const u8,
+            note_length: usize,
+            calls: *const u8,
+            calls_length: usize,
+            settings: *const u8,
+            settings_length: usize,
+            out: *mut u8,
+            out_length: usize,
+        ) -> Verdict;
+
+        pub fn bolikwaru_write_planned_with_cycle(
+            net: Network,
+            note: *const u8,
+            note_length: usize,
+            calls: *const u8,
+            calls_length: usize,
+            settings: *const u8,
+            settings_length: usize,
+            out: *mut u8,
+            out_length: usize,
+        ) -> Verdict;
+
+        pub fn bolikwaru_convert_to_new(
+            file: *const u8,
+            file_length: usize,
+            out: *mut u8,
+            out_length: usize,
+        ) -> Verdict;
+
+        pub fn bolikwaru_convert_to_old(
+            file: *const u8,
+            file_length: usize,
             out: *mut u8,
             out_length: usize,
         ) -> Verdict;
@@ -236,15 +277,15 @@ pub fn drop(
     }
 }
 
-/// Reads a plan file; its network is `Network::of_sizes(n, m, r)` of the sizes told. Refusals are
-/// tried in the order 14, 1, 3, 15, 5, 6, 7, then for a planned file row by row 9 to 13.
+/// Reads a plan file of any kind. Refusals are tried in the order 14, 1, 3, 15, 5, 6, 7, then for a
+/// planned file row by row 9 to 13.
 pub fn read(file: &[u8]) -> Told {
     unsafe { library::bolikwaru_read(file.as_ptr(), file.len()) }
 }
 
-/// Writes a calls-only file to the front of `out`; `settings` has no bytes. Refusals are tried in
-/// the order 1, 2, 3, 16, 4, 5, 6, 7, then 18: a file of this kind has no place for a cycle that is
-/// not the larger of r and m.
+/// Writes a calls-only file, of kind 1, to the front of `out`; `settings` has no bytes. Refusals
+/// are tried in the order 1, 2, 3, 16, 4, 5, 6, 7, then 18: a file of this kind has no place for a
+/// cycle that is not the larger of r and m.
 pub fn write_calls(
     net: Network,
     note: &[u8],
@@ -267,8 +308,8 @@ pub fn write_calls(
     }
 }
 
-/// Writes a planned file to the front of `out`. Refusals are tried in the order 1, 2, 3, 16, 4, 5,
-/// 6, 7, then row by row 9 to 13, then 18 as above.
+/// Writes a planned file, of kind 2, to the front of `out`. Refusals are tried in the order 1, 2,
+/// 3, 16, 4, 5, 6, 7, then row by row 9 to 13, then 18 as above.
 pub fn write_planned(
     net: Network,
     note: &[u8],
@@ -288,5 +329,71 @@ pub fn write_planned(
             out.as_mut_ptr(),
             out.len(),
         )
+    }
+}
+
+/// Writes a calls-only file that tells the cycle, of kind 3, to the front of `out`; `settings` has
+/// no bytes. Refusals are tried in the order 1, 2, 3, 16, 4, 5, 6, 7.
+pub fn write_calls_with_cycle(
+    net: Network,
+    note: &[u8],
+    calls: &[u8],
+    settings: &[u8],
+    out: &mut [u8],
+) -> Verdict {
+    unsafe {
+        library::bolikwaru_write_calls_with_cycle(
+            net,
+            note.as_ptr(),
+            note.len(),
+            calls.as_ptr(),
+            calls.len(),
+            settings.as_ptr(),
+            settings.len(),
+            out.as_mut_ptr(),
+            out.len(),
+        )
+    }
+}
+
+/// Writes a planned file that tells the cycle, of kind 4, to the front of `out`. Refusals are tried
+/// in the order 1, 2, 3, 16, 4, 5, 6, 7, then row by row 9 to 13.
+pub fn write_planned_with_cycle(
+    net: Network,
+    note: &[u8],
+    calls: &[u8],
+    settings: &[u8],
+    out: &mut [u8],
+) -> Verdict {
+    unsafe {
+        library::bolikwaru_write_planned_with_cycle(
+            net,
+            note.as_ptr(),
+            note.len(),
+            calls.as_ptr(),
+            calls.len(),
+            settings.as_ptr(),
+            settings.len(),
+            out.as_mut_ptr(),
+            out.len(),
+        )
+    }
+}
+
+/// Converts a file of kind 1 or 2 to one of kind 3 or 4, at the front of `out`; the bytes beyond
+/// keep their values, and success tells K. Refusals are tried in the order of [`read`], where 14 is
+/// given for any kind but 1 and 2; then 18, which no such file is refused, then 4.
+pub fn convert_to_new(file: &[u8], out: &mut [u8]) -> Verdict {
+    unsafe {
+        library::bolikwaru_convert_to_new(file.as_ptr(), file.len(), out.as_mut_ptr(), out.len())
+    }
+}
+
+/// Converts a file of kind 3 or 4 to one of kind 1 or 2, at the front of `out`; the bytes beyond
+/// keep their values, and success tells K. Refusals are tried in the order of [`read`], where 14 is
+/// given for any kind but 3 and 4; then 18 for a cycle that is not the larger of r and m, then 4.
+pub fn convert_to_old(file: &[u8], out: &mut [u8]) -> Verdict {
+    unsafe {
+        library::bolikwaru_convert_to_old(file.as_ptr(), file.len(), out.as_mut_ptr(), out.len())
     }
 }

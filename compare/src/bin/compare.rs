@@ -1,6 +1,7 @@
 //! Compares the proved library with the plain implementation: every small input, histories of adds
-//! and drops, then COUNT drawn inputs. Ends with a line that tells how many calls were compared, or
-//! stops at the first difference.
+//! and drops, then COUNT drawn inputs. Files that the library has read, written or converted have to
+//! go there and back by it. Ends with a line that tells how many calls were compared, or stops at the
+//! first difference.
 
 use compare::comparison::{compare_all, compare_exhaustively, Coverage, Difference};
 use compare::history::{compare_history, histories};

@@ -3,7 +3,7 @@
 
 use crate::inputs::{file_of, filled, settings_length, Input, Running};
 use crate::plain::Plain;
-use crate::{Entries, Network, CALL_BYTES, MOVED_BYTES, SETTING_BYTES};
+use crate::{Entries, Kind, Network, CALL_BYTES, MOVED_BYTES, SETTING_BYTES};
 
 /// The network of three sizes alone.
 pub fn network(n: usize, m: usize, r: usize) -> Network {
@@ -38,22 +38,29 @@ pub fn read(file: Vec<u8>) -> Input {
 }
 
 /// A call of the reader with a file of these parts.
-pub fn read_of(kind: usize, net: Network, note: &[u8], calls: &[u8], settings: &[u8]) -> Input {
+pub fn read_of(kind: Kind, net: Network, note: &[u8], calls: &[u8], settings: &[u8]) -> Input {
     read(file_of(kind, net, note, calls, settings))
 }
 
-/// A call of the writer of calls-only files, given no settings, with so many bytes of room.
-pub fn write_calls(net: Network, note: &[u8], calls: &[u8], room: usize) -> Input {
-    Input::WriteCalls {
+/// A call of the writer of a kind with note, calls and settings, and so many bytes of room.
+pub fn write(kind: Kind, net: Network, parts: [&[u8]; 3], room: usize) -> Input {
+    let [note, calls, settings] = parts.map(<[u8]>::to_vec);
+    Input::Write {
+        kind,
         net,
-        note: note.to_vec(),
-        calls: calls.to_vec(),
-        settings: Vec::new(),
+        note,
+        calls,
+        settings,
         out: filled(room),
     }
 }
 
-/// A call of the writer of planned files with so many bytes of room.
+/// A call of the writer of files of kind 1, given no settings, with so many bytes of room.
+pub fn write_calls(net: Network, note: &[u8], calls: &[u8], room: usize) -> Input {
+    write(Kind::Calls, net, [note, calls, &[]], room)
+}
+
+/// A call of the writer of files of kind 2 with so many bytes of room.
 pub fn write_planned(
     net: Network,
     note: &[u8],
@@ -61,11 +68,21 @@ pub fn write_planned(
     settings: &[u8],
     room: usize,
 ) -> Input {
-    Input::WritePlanned {
-        net,
-        note: note.to_vec(),
-        calls: calls.to_vec(),
-        settings: settings.to_vec(),
+    write(Kind::Planned, net, [note, calls, settings], room)
+}
+
+/// A call of the conversion to new files with so many bytes of room.
+pub fn convert_to_new(file: &[u8], room: usize) -> Input {
+    Input::ConvertToNew {
+        file: file.to_vec(),
+        out: filled(room),
+    }
+}
+
+/// A call of the conversion to old files with so many bytes of room.
+pub fn convert_to_old(file: &[u8], room: usize) -> Input {
+    Input::ConvertToOld {
+        file: file.to_vec(),
         out: filled(room),
     }
 }

@@ -8,7 +8,7 @@ use super::builders::{
 use super::from_documents::{CASE_3, EIGHT_MODULES, TABLE_ONE};
 use crate::inputs::{setting_of, spread_calls, Input, Random};
 use crate::ladders::{calls_of_pairs, ladder};
-use crate::{Network, CALL_BYTES, KIND_PLANNED, SETTING_BYTES, TRAILER_BYTES};
+use crate::{Kind, Network, CALL_BYTES, SETTING_BYTES, TRAILER_BYTES};
 
 /// Cycles that are not the larger of r and m, within the limits and outside.
 pub fn own_cycles() -> Vec<Input> {
@@ -24,8 +24,8 @@ pub fn own_cycles() -> Vec<Input> {
 }
 
 /// The settings of case 3 as the bench table has them, and those by three wavelengths.
-const BY_TWO: [u8; 12] = [0, 0, 0, 1, 0, 1, 0, 1, 1, 1, 1, 0];
-const BY_THREE: [u8; 12] = [0, 0, 0, 1, 0, 1, 2, 1, 1, 1, 1, 2];
+pub const BY_TWO: [u8; 12] = [0, 0, 0, 1, 0, 1, 0, 1, 1, 1, 1, 0];
+pub const BY_THREE: [u8; 12] = [0, 0, 0, 1, 0, 1, 2, 1, 1, 1, 1, 2];
 
 /// The calls of case 3 with two wavelengths and with three.
 fn case_3() -> Vec<Input> {
@@ -47,8 +47,8 @@ fn case_3() -> Vec<Input> {
         // A file is written and read with two.
         write_planned(two, &[], &CASE_3, &BY_TWO, 40),
         write_planned(two, &[], &CASE_3, &BY_THREE, 40),
-        read_of(KIND_PLANNED, two, &[], &CASE_3, &BY_TWO),
-        read_of(KIND_PLANNED, two, &[], &CASE_3, &BY_THREE),
+        read_of(Kind::Planned, two, &[], &CASE_3, &BY_TWO),
+        read_of(Kind::Planned, two, &[], &CASE_3, &BY_THREE),
     ]
 }
 

@@ -7,6 +7,7 @@ use crate::faulty::{input_with, input_with_in_one_row, Fault};
 use crate::inputs::Input;
 use crate::plain::Plain;
 use crate::refusals::{applying_refusals, first_in_order, is_sought_in_rows, Asked};
+use crate::Kind;
 
 /// The fault of a cycle that isn't the larger of r and m.
 const OTHER_CYCLE: Fault = Fault { number: 18, way: 0 };
@@ -15,9 +16,9 @@ const OTHER_CYCLE: Fault = Fault { number: 18, way: 0 };
 /// sizes are inside their limits, so it stands among the pairs.
 pub fn single_faults() -> Vec<Input> {
     let mut list = Vec::new();
-    for asked in Asked::ALL {
+    for asked in Asked::OF_TABLES {
         for &number in asked.order().iter().filter(|&&number| number != 3) {
-            for way in 0..asked.ways(number) {
+            for &way in asked.ways(number) {
                 let input = input_with(asked, &[Fault { number, way }]);
                 list.push(checked(asked, &[number], input));
             }
@@ -30,7 +31,7 @@ pub fn single_faults() -> Vec<Input> {
 /// twice, with either of them in the earlier row.
 pub fn pairs_of_faults() -> Vec<Input> {
     let mut list = Vec::new();
-    for asked in Asked::ALL {
+    for asked in Asked::OF_TABLES {
         let order = asked.order();
         for (place, &first) in order.iter().enumerate() {
             for &second in &order[place + 1..] {
@@ -45,8 +46,8 @@ pub fn pairs_of_faults() -> Vec<Input> {
 /// lengths given.
 fn add_pair(list: &mut Vec<Input>, asked: Asked, first: usize, second: usize) {
     let has_many_rows = first == 3 || second == 3;
-    for first_way in 0..asked.ways(first) {
-        for second_way in 0..asked.ways(second) {
+    for &first_way in asked.ways(first) {
+        for &second_way in asked.ways(second) {
             if has_many_rows && first != 2 && first_way + second_way > 0 {
                 continue;
             }
@@ -74,7 +75,7 @@ fn add_pair(list: &mut Vec<Input>, asked: Asked, first: usize, second: usize) {
 /// them, come in one row too.
 pub fn pairs_before_another_cycle() -> Vec<Input> {
     let mut list = Vec::new();
-    for asked in [Asked::WriteCalls, Asked::WritePlanned] {
+    for asked in [Asked::Write(Kind::Calls), Asked::Write(Kind::Planned)] {
         let before: Vec<usize> = asked
             .order()
             .iter()
@@ -88,9 +89,9 @@ pub fn pairs_before_another_cycle() -> Vec<Input> {
         }
     }
     for numbers in sets_for_one_row() {
-        let input = input_with_in_one_row(Asked::WritePlanned, &numbers, &[OTHER_CYCLE]);
+        let input = input_with_in_one_row(Asked::Write(Kind::Planned), &numbers, &[OTHER_CYCLE]);
         let all = [&numbers[..], &[18]].concat();
-        list.push(checked(Asked::WritePlanned, &all, input));
+        list.push(checked(Asked::Write(Kind::Planned), &all, input));
     }
     list
 }
@@ -129,7 +130,11 @@ pub fn sets_for_one_row() -> Vec<Vec<usize>> {
 /// to five in one row, and a whole row given twice, so that 6, 7, 12 and 13 are all there.
 pub fn faults_in_one_row() -> Vec<Input> {
     let mut list = Vec::new();
-    for asked in [Asked::Accept, Asked::ReadPlanned, Asked::WritePlanned] {
+    for asked in [
+        Asked::Accept,
+        Asked::Read(Kind::Planned),
+        Asked::Write(Kind::Planned),
+    ] {
         for numbers in sets_for_one_row() {
             let input = input_with_in_one_row(asked, &numbers, &[]);
             list.push(checked(asked, &numbers, input));
@@ -146,7 +151,7 @@ pub fn faults_in_one_row() -> Vec<Input> {
 
 /// The input, made sure of: all the named refusals apply, each judged alone, and the answer is the
 /// first of those that apply in the entry's order.
-fn checked(asked: Asked, numbers: &[usize], input: Input) -> Input {
+pub fn checked(asked: Asked, numbers: &[usize], input: Input) -> Input {
     let applying = applying_refusals(&input);
     for number in numbers {
         assert!(

@@ -1,15 +1,13 @@
-//! Files of both kinds, written and read, and damaged ones. The files are laid out by `inputs.rs`;
+//! Files of kinds 1 and 2, written and read, and damaged ones. The files are laid out by `inputs.rs`;
 //! the settings in them are the planner's.
 
 use super::builders::{network, planned, read, read_of, write_calls, write_planned};
 use super::from_documents::{example_file, CASE_4};
-use crate::inputs::{file_of, filled, setting_of, Input};
+use crate::inputs::{file_of, filled, setting_of, with_kind_byte, Input};
 use crate::ladders::{largest_ladder, LARGEST_TIGHT};
-use crate::{
-    Network, CALL_BYTES, KIND_CALLS, KIND_PLANNED, LONGEST_NOTE, MARK, SETTING_BYTES, TRAILER_BYTES,
-};
+use crate::{Kind, Network, CALL_BYTES, LONGEST_NOTE, MARK, SETTING_BYTES, TRAILER_BYTES};
 
-/// Files of each kind with notes of 0, 1 and 255 bytes, without rows, with few, and the longest,
+/// Files of kinds 1 and 2 with notes of 0, 1 and 255 bytes, without rows, with few, and the longest,
 /// read and written.
 pub fn files() -> Vec<Input> {
     let mut list = vec![read(example_file())];
@@ -27,12 +25,12 @@ pub fn files() -> Vec<Input> {
         &largest_ladder(),
         0,
     );
-    // An overfull table is no fault of a file: neither kind gives 8.
+    // An overfull table is no fault of a file: neither of these kinds gives 8.
     let overfull = [0, 0, 0, 0, 0, 1, 1, 0];
-    list.push(read_of(KIND_CALLS, network(2, 1, 2), &[], &overfull, &[]));
+    list.push(read_of(Kind::Calls, network(2, 1, 2), &[], &overfull, &[]));
     let settings = [0, 0, 0, 0, 0, 1];
     list.push(read_of(
-        KIND_PLANNED,
+        Kind::Planned,
         network(2, 1, 2),
         &[],
         &overfull,
@@ -61,12 +59,12 @@ pub fn files() -> Vec<Input> {
     list
 }
 
-/// Adds both kinds of file of a call table, read, and written with so much room beyond what is
+/// Adds the files of kinds 1 and 2 of a call table, read, and written with so much room beyond what is
 /// needed.
 fn add_files(list: &mut Vec<Input>, net: Network, note: &[u8], calls: &[u8], beyond: usize) {
     let settings = planned(net, calls);
-    let calls_file = file_of(KIND_CALLS, net, note, calls, &[]);
-    let planned_file = file_of(KIND_PLANNED, net, note, calls, &settings);
+    let calls_file = file_of(Kind::Calls, net, note, calls, &[]);
+    let planned_file = file_of(Kind::Planned, net, note, calls, &settings);
     list.push(write_calls(net, note, calls, calls_file.len() + beyond));
     list.push(write_planned(
         net,
@@ -86,22 +84,29 @@ pub fn damaged_files() -> Vec<Input> {
     let settings = planned(net, &CASE_4);
     let mut list = Vec::new();
     for file in [
-        file_of(KIND_CALLS, net, &[1, 2], &CASE_4, &[]),
-        file_of(KIND_PLANNED, net, &[1, 2], &CASE_4, &settings),
+        file_of(Kind::Calls, net, &[1, 2], &CASE_4, &[]),
+        file_of(Kind::Planned, net, &[1, 2], &CASE_4, &settings),
     ] {
         add_cut_files(&mut list, &file);
         add_changed_trailers(&mut list, &file);
     }
     for note_length in [254, 255, 256, 257] {
         let note = filled(note_length);
-        list.push(read_of(KIND_CALLS, net, &note, &CASE_4, &[]));
-        list.push(read_of(KIND_PLANNED, net, &note, &CASE_4, &settings));
+        list.push(read_of(Kind::Calls, net, &note, &CASE_4, &[]));
+        list.push(read_of(Kind::Planned, net, &note, &CASE_4, &settings));
     }
-    // A kind that isn't one, with sizes or K wrong as well: 14 comes first.
+    // A kind that isn't one, with sizes or K wrong as well: 14 comes first. And kind 3 without its two
+    // bytes, so that the last two of the calls stand in their place: W and a spare byte of 1, or W of
+    // 0 and a zero.
     for kind in [0, 3] {
-        list.push(read_of(kind, net, &[], &CASE_4, &[]));
-        list.push(read_of(kind, network(0, 2, 3), &[], &CASE_4, &[]));
-        list.push(read_of(kind, net, &[], &[0; 4 * 1025], &[]));
+        for (net, calls) in [
+            (net, &CASE_4[..]),
+            (network(0, 2, 3), &CASE_4),
+            (net, &[0; 4 * 1025]),
+        ] {
+            let file = file_of(Kind::Calls, net, &[], calls, &[]);
+            list.push(read(with_kind_byte(file, kind)));
+        }
     }
     // K of 1,025 and distances that are as stated for it, which the file doesn't hold: 3 comes
     // before 15.
@@ -111,7 +116,7 @@ pub fn damaged_files() -> Vec<Input> {
     // Settings rows that stand before the call rows: the calls are read where the settings stand.
     let turned = [&settings[..], &CASE_4].concat();
     list.push(read_of(
-        KIND_PLANNED,
+        Kind::Planned,
         net,
         &[],
         &turned[..16],
@@ -120,13 +125,13 @@ pub fn damaged_files() -> Vec<Input> {
     // The right settings of each call, but in another order of rows.
     let mut exchanged = settings.clone();
     exchanged.rotate_left(SETTING_BYTES);
-    list.push(read_of(KIND_PLANNED, net, &[], &CASE_4, &exchanged));
+    list.push(read_of(Kind::Planned, net, &[], &CASE_4, &exchanged));
     // Each row arrives, but all of one input module go through one central.
     let alike: Vec<u8> = CASE_4
         .chunks_exact(CALL_BYTES)
         .flat_map(|call| setting_of(net, call, 0))
         .collect();
-    list.push(read_of(KIND_PLANNED, net, &[], &CASE_4, &alike));
+    list.push(read_of(Kind::Planned, net, &[], &CASE_4, &alike));
     list
 }
 

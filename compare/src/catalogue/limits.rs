@@ -2,12 +2,12 @@
 //! are written out here; only the table of 1,024 rows is from `ladders.rs`.
 
 use super::builders::{
-    accept, network, plan, plan_roomy, planned, read_of, write_calls, write_planned,
+    accept, network, plan, plan_roomy, planned, read_of, write, write_calls, write_planned,
 };
 use super::from_documents::CASE_3;
-use crate::inputs::{filled, settings_length, Input};
+use crate::inputs::{settings_length, Input};
 use crate::ladders::{largest_ladder, LARGEST_TIGHT};
-use crate::{Network, CALL_BYTES, KIND_CALLS, KIND_PLANNED};
+use crate::{Kind, Network, CALL_BYTES};
 
 /// Each size at its limits and outside them, K at and above 1,024, lengths that are no whole rows,
 /// rooms.
@@ -29,8 +29,8 @@ pub fn limits_and_lengths() -> Vec<Input> {
         list.push(accept(net, &[], &[]));
         list.push(write_calls(net, &[9], &[0, 0, 0, 0], 20));
         list.push(write_planned(net, &[9], &[0, 0, 0, 0], &[0, 0, 0], 23));
-        list.push(read_of(KIND_CALLS, net, &[9], &[0, 0, 0, 0], &[]));
-        list.push(read_of(KIND_PLANNED, net, &[9], &[0, 0, 0, 0], &[0, 0, 0]));
+        list.push(read_of(Kind::Calls, net, &[9], &[0, 0, 0, 0], &[]));
+        list.push(read_of(Kind::Planned, net, &[9], &[0, 0, 0, 0], &[0, 0, 0]));
     }
     // One to three bytes beyond whole rows; settings of no bytes, one less, one more, and a row more.
     for surplus in 1..=3 {
@@ -43,13 +43,8 @@ pub fn limits_and_lengths() -> Vec<Input> {
         list.push(accept(network(2, 2, 2), &CASE_3[..4], &[0; 6][..length]));
     }
     // A calls-only file is refused settings even of the right length.
-    list.push(Input::WriteCalls {
-        net: network(2, 2, 2),
-        note: Vec::new(),
-        calls: CASE_3[..4].to_vec(),
-        settings: vec![0, 0, 0],
-        out: filled(30),
-    });
+    let parts = [&[][..], &CASE_3[..4], &[0, 0, 0]];
+    list.push(write(Kind::Calls, network(2, 2, 2), parts, 30));
     // 1,025 rows without a number outside: a row of 1,024 comes twice, which is 6 and 7 as well.
     let mut too_many = largest_ladder();
     too_many.extend_from_within(..CALL_BYTES);

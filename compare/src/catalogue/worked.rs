@@ -1,12 +1,12 @@
 //! Inputs whose answers can be worked out by hand, and in the tests those answers. The inputs are
 //! written out here, many of them of case 4 and the example file.
 
-use super::builders::{accept, network, plan, planned, read, read_of, write_calls, write_planned};
+use super::builders::{
+    accept, network, plan, planned, read, read_of, write, write_calls, write_planned,
+};
 use super::from_documents::{example_file, CASE_4};
 use crate::inputs::{filled, settings_length, Input};
-use crate::{
-    Network, CALL_BYTES, KIND_CALLS, KIND_PLANNED, LONGEST_NOTE, MARK, SETTING_BYTES, TRAILER_BYTES,
-};
+use crate::{Kind, Network, CALL_BYTES, LONGEST_NOTE, MARK, SETTING_BYTES, TRAILER_BYTES};
 
 /// Small inputs of every entry, with answers worked out by hand: most have two faults or more, of
 /// which the first in the document's order is told.
@@ -100,7 +100,7 @@ fn reads() -> Vec<Input> {
         read([filled(LONGEST_NOTE), example.clone()].concat()),
         read([filled(LONGEST_NOTE + 1), example.clone()].concat()),
         read_of(
-            KIND_PLANNED,
+            Kind::Planned,
             case_4,
             &[],
             &CASE_4,
@@ -130,12 +130,12 @@ fn reads() -> Vec<Input> {
         ),
         read(example[trailer_at..].to_vec()),
         // 5, 6 and 7 in row 1, of calls only.
-        read_of(KIND_CALLS, two, &[], &[0, 0, 0, 0, 0, 2, 1, 0], &[]),
-        read_of(KIND_CALLS, two, &[], &[0, 0, 0, 0, 0, 0, 1, 0], &[]),
-        read_of(KIND_CALLS, two, &[], &[0, 0, 0, 0, 0, 1, 0, 0], &[]),
+        read_of(Kind::Calls, two, &[], &[0, 0, 0, 0, 0, 2, 1, 0], &[]),
+        read_of(Kind::Calls, two, &[], &[0, 0, 0, 0, 0, 0, 1, 0], &[]),
+        read_of(Kind::Calls, two, &[], &[0, 0, 0, 0, 0, 1, 0, 0], &[]),
         // 12 in row 1 of a planned file: case 10.
         read_of(
-            KIND_PLANNED,
+            Kind::Planned,
             two,
             &[],
             &[0, 0, 0, 0, 0, 1, 1, 0],
@@ -145,13 +145,13 @@ fn reads() -> Vec<Input> {
 }
 
 /// A call of the writer of a kind; the planned one is given 3 zero bytes for each whole call row.
-fn write(kind: usize, net: Network, note: &[u8], calls: &[u8], room: usize) -> Input {
-    if kind == KIND_PLANNED {
-        let settings = vec![0; settings_length(calls)];
-        write_planned(net, note, calls, &settings, room)
+fn write_zeros(kind: Kind, net: Network, note: &[u8], calls: &[u8], room: usize) -> Input {
+    let length = if kind.has_settings() {
+        settings_length(calls)
     } else {
-        write_calls(net, note, calls, room)
-    }
+        0
+    };
+    write(kind, net, [note, calls, &vec![0; length]], room)
 }
 
 fn writes() -> Vec<Input> {
@@ -170,27 +170,21 @@ fn writes() -> Vec<Input> {
         write_planned(two, &[5, 6], &[0, 0, 1, 0], &[1, 1, 0], 24),
         // Settings for the writer that takes none, none for the writer that takes some, and settings
         // refused by 11.
-        Input::WriteCalls {
-            net: two,
-            note: vec![5, 6],
-            calls: vec![0, 0, 1, 0],
-            settings: vec![1, 1, 0],
-            out: filled(24),
-        },
+        write(Kind::Calls, two, [&[5, 6], &[0, 0, 1, 0], &[1, 1, 0]], 24),
         write_planned(two, &[5, 6], &[0, 0, 1, 0], &[], 24),
         write_planned(two, &[5, 6], &[0, 0, 1, 0], &[1, 1, 1], 24),
     ];
     let too_many = [0; CALL_BYTES * (Network::MOST_ROWS + 1)];
     let too_many_and_a_byte = [0; CALL_BYTES * (Network::MOST_ROWS + 1) + 1];
     let note = filled(LONGEST_NOTE + 1);
-    for kind in [KIND_CALLS, KIND_PLANNED] {
+    for kind in [Kind::Calls, Kind::Planned] {
         list.extend([
             // 1 before 2; 2 before 3; 3 before 16; 16 before 4; 4 before 5.
-            write(kind, network(0, 1, 1), &[], &[0], 0),
-            write(kind, one, &[], &too_many_and_a_byte, 0),
-            write(kind, one, &note, &too_many, 0),
-            write(kind, one, &note, &[], 0),
-            write(kind, one, &[], &[9, 9, 9, 9], 0),
+            write_zeros(kind, network(0, 1, 1), &[], &[0], 0),
+            write_zeros(kind, one, &[], &too_many_and_a_byte, 0),
+            write_zeros(kind, one, &note, &too_many, 0),
+            write_zeros(kind, one, &note, &[], 0),
+            write_zeros(kind, one, &[], &[9, 9, 9, 9], 0),
         ]);
     }
     list

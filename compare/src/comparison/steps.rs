@@ -5,7 +5,7 @@ use crate::inputs::{filled, Input, Running};
 use crate::ladders::Placed;
 use crate::{Network, CALL_BYTES, MOVED_BYTES, SETTING_BYTES};
 
-pub fn compare_steps(both: &mut Both) -> Result<(), Difference> {
+pub(super) fn compare_steps(both: &mut Both) -> Result<(), Difference> {
     step_from_one_row(both)?;
     for net in [tight_and_spare(2, 2, 3), tight_and_spare(3, 2, 3)].concat() {
         step_from_lawful(both, net)?;

@@ -1,16 +1,18 @@
-// The seven entries for programs in C and Rust. Each has its entry's own contract, on its entry's own records, so what is proved
+// The eleven entries for programs in C and Rust. Each has its entry's own contract, on its entry's own records, so what is proved
 // of an entry holds of its export, and so does every law over its guarantee. Nothing is asked of the input.
+ghost use mathlib.Core.Bool.{true, false};
 ghost use Rattle.acceptance.specs.Acceptance.{Accepts};
 ghost use Rattle.planner.specs.Planner.{Plans};
 ghost use Rattle.adding.specs.Adding.{AddsCall};
 ghost use Rattle.dropping.specs.Dropping.{DropsCall};
-ghost use Rattle.planfile.specs.File.{callsOnly, planned};
+ghost use Rattle.trailer.specs.File.{callsOnly, planned, callsWithCycle, plannedWithCycle, oldKinds, newKinds, allKinds};
 ghost use Rattle.planfile.specs.Reader.{Reads};
 ghost use Rattle.planwriter.specs.Writer.{Writes};
+ghost use Rattle.conversion.specs.Conversion.{Converts};
 use calls::Verdict;
-use planfile::Told;
 use planner::Planned;
 use shelf::Network;
+use trailer::Told;
 
 // Settings for the calls, at the front of `settings`.
 #[no_mangle]
@@ -70,7 +72,7 @@ pub extern "C" fn bolikwaru_drop(
 // What a plan file tells.
 #[no_mangle]
 pub extern "C" fn bolikwaru_read(file: &[u8]) -> Told
-    ensures { λ told. ⌜ Reads (now (file .entry)) told ⌝ }
+    ensures { λ told. ⌜ Reads allKinds (now (file .entry)) told ⌝ }
 {
     planfile::read(file)
 }
@@ -101,4 +103,48 @@ pub extern "C" fn bolikwaru_write_planned(
     ensures { λ v. ⌜ Writes planned net (now (note .entry)) (now (calls .entry)) (now (settings .entry)) (now (out .entry)) (now (out .exit)) v ⌝ }
 {
     planwriter::write_planned(net, note, calls, settings, out)
+}
+
+// A calls-only file that holds the cycle, at the front of `out`.
+#[no_mangle]
+pub extern "C" fn bolikwaru_write_calls_with_cycle(
+    net: Network,
+    note: &[u8],
+    calls: &[u8],
+    settings: &[u8],
+    out: &mut [u8],
+) -> Verdict
+    ensures { λ v. ⌜ Writes callsWithCycle net (now (note .entry)) (now (calls .entry)) (now (settings .entry)) (now (out .entry)) (now (out .exit)) v ⌝ }
+{
+    planwriter::write_calls_with_cycle(net, note, calls, settings, out)
+}
+
+// A planned file that holds the cycle, at the front of `out`.
+#[no_mangle]
+pub extern "C" fn bolikwaru_write_planned_with_cycle(
+    net: Network,
+    note: &[u8],
+    calls: &[u8],
+    settings: &[u8],
+    out: &mut [u8],
+) -> Verdict
+    ensures { λ v. ⌜ Writes plannedWithCycle net (now (note .entry)) (now (calls .entry)) (now (settings .entry)) (now (out .entry)) (now (out .exit)) v ⌝ }
+{
+    planwriter::write_planned_with_cycle(net, note, calls, settings, out)
+}
+
+// An old file as a new one, at the front of `out`.
+#[no_mangle]
+pub extern "C" fn bolikwaru_convert_to_new(file: &[u8], out: &mut [u8]) -> Verdict
+    ensures { λ v. ⌜ Converts oldKinds true (now (file .entry)) (now (out .entry)) (now (out .exit)) v ⌝ }
+{
+    conversion::convert_to_new(file, out)
+}
+
+// A new file as an old one, at the front of `out`.
+#[no_mangle]
+pub extern "C" fn bolikwaru_convert_to_old(file: &[u8], out: &mut [u8]) -> Verdict
+    ensures { λ v. ⌜ Converts newKinds false (now (file .entry)) (now (out .entry)) (now (out .exit)) v ⌝ }
+{
+    conversion::convert_to_old(file, out)
 }

@@ -1,7 +1,7 @@
 -- Laws of bytes.
 --   number-of-bytes       == the two bytes of a number, one behind the other, are the number
 --   high-number, low-number == and taken from it again, they are the bytes
---   length-part, part-bytes == how long a part is, and that it holds bytes
+--   length-part, part-at, part-none, part-bytes == how long a part is, what stands in it, a part with nothing in it, and that it holds bytes
 --   take-part, part-middle == what stands before a part, with the part behind it; and the part between two others
 --   listed i k bytes      == k bytes from i on, one by one, and listed-all that they are all that there are
 --   adds-none, adds-byte, adds-both == nothing written, one byte written, and one part written behind the other
@@ -23,6 +23,10 @@ pub number-of-bytes : (v : ℕ) → v < 65536 → highByte v * 256 + lowByte v �
 unfolding highByte lowByte
 number-of-bytes v h = omega arith
 
+pub part-at : (bytes : List ℕ) (from to i : ℕ) → i < to - from → getD (part bytes from to) i 0 ≡ getD bytes (from + i) 0
+unfolding part
+part-at bytes from to i l = getD-take (to - from) (drop from bytes) i 0 l ∙ getD-drop from bytes i 0
+
 module _ (bytes : List ℕ) (small : AllBytes bytes) where
   pub high-number : (i : ℕ) → highByte (numberAt bytes i) ≡ getD bytes i 0
   unfolding highByte numberAt
@@ -35,7 +39,7 @@ module _ (bytes : List ℕ) (small : AllBytes bytes) where
   pub part-bytes : (from to : ℕ) → AllBytes (part bytes from to)
   unfolding part
   part-bytes from to i = elim (decLt i (to - from)) [
-    | yes l ↦ rw (getD-take (to - from) (drop from bytes) i 0 l, getD-drop from bytes i 0) (small (from + i))
+    | yes l ↦ rw (part-at bytes from to i l) (small (from + i))
     | no n ↦
         let short : length (take (to - from) (drop from bytes)) ≤ i = simp length-take (omega arith) in
         rw (List·getD-eq-default (take (to - from) (drop from bytes)) 0 {n = i} short) (omega arith)
@@ -46,6 +50,10 @@ module _ (bytes : List ℕ) (small : AllBytes bytes) where
 pub length-part : (bytes : List ℕ) (from to : ℕ) → to ≤ length bytes → length (part bytes from to) ≡ to - from
 unfolding part
 length-part bytes from to h = simp (length-take, length-drop) (omega arith)
+
+pub part-none : (bytes : List ℕ) (from to : ℕ) → to ≤ from → part bytes from to ≡ []
+unfolding part
+part-none bytes from to h = let e : to - from ≡ 0 = omega arith in rw e
 
 pub take-part : (bytes : List ℕ) (from to : ℕ) → from ≤ to → take from bytes ++ part bytes from to ≡ take to bytes
 unfolding part

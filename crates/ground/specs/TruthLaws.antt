@@ -3,7 +3,8 @@
 --   all-is, any-is, none-is == tests in a list, as types
 --   same-test            == two tests that hold together are the same test
 --   test-fails, test-holds == a test that fails is false, and one that does not fail is true
-use mathlib.Core.Path.{_≡_, refl}
+--   not-both             == no test is both
+use mathlib.Core.Path.{_≡_, refl, sym, subst}
 use mathlib.Core.Logic.{_⊎_, inl, inr, _↔_, Iff·trans, Iff·rfl, Iff·and}
 use mathlib.Core.Bool.{Bool, true, false, not, _&&_, _||_}
 use mathlib.Core.List.{List, [], _∷_}
@@ -61,3 +62,7 @@ test-fails false h = refl
 pub test-holds : (t : Bool) → (T (not t) → ⊥) → t ≡ true
 test-holds true h = refl
 test-holds false h = absurd (h tt)
+
+pub not-both : {A : Type 0} {t : Bool} → t ≡ true → t ≡ false → A
+not-both {t = true} y n = absurd (subst (λ (t : Bool). T t) n tt)
+not-both {t = false} y n = absurd (subst (λ (t : Bool). T t) (sym y) tt)

@@ -8,12 +8,15 @@
 --   placed-rows    == all rows stand in the settings that it wrote
 --   one-answer     == two answers that satisfy the entry's guarantee are the same
 use mathlib.Core.Path.{_≡_, sym, ap, _∙_}
+use mathlib.Core.Bool.{false}
 use mathlib.Core.List.{List}
 use Prim.Native.Nat.{ℕ, _+_, _*_, _≤_, _<_}
 use native.Mathlib.Omega.{arith}
+use lib.Dec.{T}
 use lib.ListN.{length, take, drop, length-append, length-drop}
 use lib.Seq.{take-at}
 use borrow.Author.Tests.{eq-eqb, ne-eqb, lt-ltb, le-ltb}
+use Rattle.ground.specs.TruthLaws.{not-is, test-holds}
 use Rattle.ground.specs.Bytes.{front, Adds}
 use Rattle.ground.specs.BytesLaws.{length-part, adds-front, adds-same}
 use Rattle.shelf.specs.declared.Network.{Network}
@@ -22,24 +25,25 @@ use Rattle.shelf.specs.Rows.{rowCount}
 use Rattle.planner.specs.declared.Planned.{Planned}
 use Rattle.planner.specs.Planner.{plannerVerdict, plannedSettings, planAnswer, planBuffer, Plans}
 use Rattle.planner.specs.SettingsLaws.{planned-length}
-use Rattle.planfile.specs.declared.Told.{Told}
-use Rattle.planfile.specs.File.{planned, longestFile}
-use Rattle.planfile.specs.FileLaws.{planned-distance, settings-most, rows-part}
-use Rattle.planfile.specs.Reader.{trailerAt, layoutOf, wholeTold, readAnswer, callsIn, settingsIn, netOf}
+use Rattle.trailer.specs.declared.Told.{Told}
+use Rattle.trailer.specs.File.{hasSettings, allKinds, longestFile}
+use Rattle.trailer.specs.FileLaws.{settings-distance, settings-most, rows-part}
+use Rattle.trailer.specs.Trailer.{trailerAt, layoutOf, wholeTold}
+use Rattle.planfile.specs.Reader.{readAnswer, callsIn, settingsIn, netOf}
 use Rattle.planfile.specs.ReaderLaws.{laid-out, reader-passes, read-whole, read-passes}
 use Rattle.lines.specs.Text.{decimal, tooLongText, refusedText, tableText, plannedText, callsText, toldText, listing}
 use Rattle.lines.specs.Writing.{Lists, HasRows}
 
 pub record Held (file : List ℕ) (told : Told) : Type 0 where
   pub calls-end : told .«calls_at» + 4 * told .count ≡ told .«settings_at»
-  pub settings-end : told .kind ≡ planned → told .«settings_at» + 3 * told .count ≡ trailerAt file
+  pub settings-end : T (hasSettings (told .kind)) → told .«settings_at» + 3 * told .count ≡ trailerAt file
   pub settings-inside : told .«settings_at» ≤ trailerAt file
   pub inside : trailerAt file ≤ length file
   pub few : told .count ≤ mostCalls
 
-module _ (file : List ℕ) (told : Told) (e : told ≡ readAnswer file) where
+module _ (file : List ℕ) (told : Told) (e : told ≡ readAnswer allKinds file) where
   -- a refused read
-  pub told-refused : (told .number ≡ 0 → ⊥) → refusedText (told .number) (told .row) ≡ toldText file (readAnswer file)
+  pub told-refused : (told .number ≡ 0 → ⊥) → refusedText (told .number) (told .row) ≡ toldText file (readAnswer allKinds file)
   unfolding toldText
   told-refused n = rw (← e, ne-eqb (told .number) 0 n)
 
@@ -47,13 +51,13 @@ module _ (file : List ℕ) (told : Told) (e : told ≡ readAnswer file) where
     pub held : Held file told
     unfolding wholeTold layoutOf
     held =
-        let p = read-passes file (sym (ap (λ (t : Told). t .number) e) ∙ z) in
-        let stated = reader-passes file .0 p .0 in
-        let laid = laid-out file stated in
+        let p = read-passes allKinds file (sym (ap (λ (t : Told). t .number) e) ∙ z) in
+        let stated = reader-passes allKinds file .0 p .0 in
+        let laid = laid-out allKinds file stated in
         let most = settings-most (layoutOf file .kind) (layoutOf file .count) in
-        rw (e, read-whole file p) (record {
+        rw (e, read-whole allKinds file p) (record {
           calls-end = laid .calls-end;
-          settings-end = λ k. ap (λ (d : ℕ). layoutOf file .«settings_at» + d) (sym (planned-distance (layoutOf file .kind) (layoutOf file .count) k)) ∙ laid .settings-end;
+          settings-end = λ k. ap (λ (d : ℕ). layoutOf file .«settings_at» + d) (sym (settings-distance (layoutOf file .kind) (layoutOf file .count) k)) ∙ laid .settings-end;
           settings-inside = omega (arith, laid .settings-end);
           inside = laid .inside;
           few = stated .few;
@@ -67,7 +71,7 @@ module _ (file : List ℕ) (told : Told) (e : told ≡ readAnswer file) where
     calls-few = omega (arith, calls-count, held .few)
 
     -- a planned file, with its own settings
-    module _ (k : told .kind ≡ planned) where
+    module _ (k : T (hasSettings (told .kind))) where
       pub planned-rows : HasRows (callsIn file told) (settingsIn file told)
       unfolding settingsIn
       planned-rows = record {
@@ -75,14 +79,14 @@ module _ (file : List ℕ) (told : Told) (e : told ≡ readAnswer file) where
         settings-length = omega (arith, calls-count, held .settings-end k, length-part file (told .«settings_at») (trailerAt file) (held .inside));
       }
 
-      pub told-planned : plannedText (netOf told) (callsIn file told) (settingsIn file told) ≡ toldText file (readAnswer file)
+      pub told-planned : plannedText (netOf told) (callsIn file told) (settingsIn file told) ≡ toldText file (readAnswer allKinds file)
       unfolding toldText
-      told-planned = rw (← e, eq-eqb (told .number) 0 z, eq-eqb (told .kind) planned k)
+      told-planned = rw (← e, eq-eqb (told .number) 0 z, test-holds (hasSettings (told .kind)) (λ n. not-is (hasSettings (told .kind)) .0 n k))
 
     -- a file of calls only
-    pub told-calls : (told .kind ≡ planned → ⊥) → callsText (netOf told) (callsIn file told) ≡ toldText file (readAnswer file)
+    pub told-calls : hasSettings (told .kind) ≡ false → callsText (netOf told) (callsIn file told) ≡ toldText file (readAnswer allKinds file)
     unfolding toldText
-    told-calls n = rw (← e, eq-eqb (told .number) 0 z, ne-eqb (told .kind) planned n)
+    told-calls n = rw (← e, eq-eqb (told .number) 0 z, n)
 
 -- a file that is too long, and any other
 module _ (file : List ℕ) where
@@ -90,7 +94,7 @@ module _ (file : List ℕ) where
   unfolding listing
   long-listing h = rw (lt-ltb longestFile (length file) h)
 
-  pub told-listing : length file ≤ longestFile → toldText file (readAnswer file) ≡ listing file
+  pub told-listing : length file ≤ longestFile → toldText file (readAnswer allKinds file) ≡ listing file
   unfolding listing
   told-listing h = rw (le-ltb longestFile (length file) h)
 

@@ -9,7 +9,7 @@
 --   firstLine net K moved == the first line: n, m, r, K and the word for the moved count
 --   rowLine calls settings i == the line of row i, and rowLines calls settings k those of the rows below k
 --   tableText net calls settings moved == the first line and the lines of all rows
---   plannedText, callsText == what is printed of a file of kind 2, and of one of kind 1
+--   plannedText, callsText == what is printed of a file with settings, and of one without
 --   toldText file told    == what is printed of a file of which a reader tells this
 --   listing file          == all that is printed
 use mathlib.Core.Bool.{cond}
@@ -21,8 +21,8 @@ use Rattle.shelf.specs.declared.Network.{Network}
 use Rattle.shelf.specs.Network.{mostCalls}
 use Rattle.shelf.specs.Rows.{rowCount, α, ω, β, ω', x, γ, y}
 use Rattle.planner.specs.Planner.{plannedSettings, planAnswer}
-use Rattle.planfile.specs.declared.Told.{Told}
-use Rattle.planfile.specs.File.{planned, longestFile}
+use Rattle.trailer.specs.declared.Told.{Told}
+use Rattle.trailer.specs.File.{hasSettings, allKinds, longestFile}
 use Rattle.planfile.specs.Reader.{readAnswer, callsIn, settingsIn, netOf}
 
 unfoldable pub space : ℕ
@@ -96,12 +96,13 @@ callsText net calls =
     (tableText net calls (plannedSettings net calls) (decimal (answer .moved)))
     (refusedText (answer .number) (answer .row))
 
+-- "The listing program treats 3 as 1 and 4 as 2, prints no W"
 unfoldable pub toldText : List ℕ → Told → List ℕ
 toldText file told =
     cond (eqb (told .number) 0)
-    (cond (eqb (told .kind) planned) (plannedText (netOf told) (callsIn file told) (settingsIn file told)) (callsText (netOf told) (callsIn file told)))
+    (cond (hasSettings (told .kind)) (plannedText (netOf told) (callsIn file told) (settingsIn file told)) (callsText (netOf told) (callsIn file told)))
     (refusedText (told .number) (told .row))
 
--- "It reads one file on standard input, up to 7,435 bytes; if more comes it prints `too long`."
+-- "It reads one file on standard input, up to 7,435 bytes; if more comes it prints `too long`."; now it "reads up to 7,437 bytes"
 unfoldable pub listing : List ℕ → List ℕ
-listing file = cond (ltb longestFile (length file)) tooLongText (toldText file (readAnswer file))
+listing file = cond (ltb longestFile (length file)) tooLongText (toldText file (readAnswer allKinds file))

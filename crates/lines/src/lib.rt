@@ -6,6 +6,7 @@ ghost use lib.ListN.{length};
 ghost use Rattle.ground.specs.Bytes.{Adds};
 ghost use Rattle.shelf.specs.Network.{mostCalls};
 ghost use Rattle.shelf.specs.Rows.{rowCount};
+ghost use Rattle.trailer.specs.File.{allKinds};
 ghost use Rattle.planfile.specs.Reader.{readAnswer};
 ghost use Rattle.lines.specs.Text.{newline, decimal, refusedText, rowLine, rowLines, tableText, plannedText, callsText, toldText};
 ghost use Rattle.lines.specs.Writing.{mostSizes, mostFirstLine, mostRowLine, longestListing, spaced, HasRow, HasRows, Lists};
@@ -162,16 +163,21 @@ fn plan_and_list(net: Network, calls: &[u8], out: &mut [u8]) -> usize
 // Lists a file that is not too long: the reader's refusal, the rows with the file's own settings, or the calls planned.
 fn list_told(file: &[u8], out: &mut [u8]) -> usize
     requires { ⌜ longestListing ≤ length (now out) ⌝ }
-    ensures { λ next. ⌜ Adds (now (out .entry)) (now (out .exit)) 0 next (toldText (now (file .entry)) (readAnswer (now (file .entry)))) ⌝ }
+    ensures { λ next. ⌜ Adds (now (out .entry)) (now (out .exit)) 0 next (toldText (now (file .entry)) (readAnswer allKinds (now (file .entry)))) ⌝ }
 {
     let told = planfile::read(file);
     if told.number != 0 {
         return write_refusal(out, told.number, told.row);
     }
-    let net = Network::of_sizes(told.n, told.m, told.r);
+    let net = Network {
+        n: told.n,
+        m: told.m,
+        r: told.r,
+        w: told.w,
+    };
     let calls_at = told.calls_at;
     let settings_at = told.settings_at;
-    if told.kind == planfile::PLANNED {
+    if trailer::has_settings(told.kind) {
         let end = settings_at + 3 * told.count;
         return list_accepted(
             net,
@@ -188,7 +194,7 @@ fn list_told(file: &[u8], out: &mut [u8]) -> usize
 pub fn list(file: &[u8], out: &mut [u8; LONGEST_LISTING]) -> usize
     ensures { λ size. ⌜ Lists (now (file .entry)) (now (out .entry)) (now (out .exit)) size ⌝ }
 {
-    if planfile::LONGEST_FILE < file.len() {
+    if trailer::LONGEST_FILE < file.len() {
         return ground::write_bytes(out, 0, b"too long\n");
     }
     list_told(file, out)

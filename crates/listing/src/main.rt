@@ -4,7 +4,7 @@ use libc::STDIN_FILENO;
 use libc::STDOUT_FILENO;
 
 fn main() {
-    let mut file = [0u8; planfile::LONGEST_FILE + 1];
+    let mut file = [0u8; trailer::LONGEST_FILE + 1];
     let size = io::read_full(STDIN_FILENO, &mut file);
     let mut text = [0u8; lines::LONGEST_LISTING];
     let end = lines::list(&file[..size], &mut text);

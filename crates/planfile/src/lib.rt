@@ -1,203 +1,27 @@
-// Plan files: a note, call rows, settings rows if planned, and a trailer that stands last and points back. Any bytes are
-// read or refused. How a file is laid out is stated once, in specs/File.antt, for the reader here and the writers above.
+// The reader of plan files: any bytes are read or refused. How a file is laid out is stated once, by the crate below, which takes the
+// trailer apart.
 ghost use mathlib.Core.Path.{_≡_};
-ghost use Prim.Native.Nat.{_*_, _≤_};
 ghost use lib.Dec.{T};
 ghost use lib.ListN.{length};
-ghost use Rattle.shelf.specs.Network.{withinLimits, mostCalls, sized};
+ghost use Rattle.shelf.specs.Network.{withinLimits};
 ghost use Rattle.shelf.specs.Rows.{rowCount};
-ghost use Rattle.planfile.specs.File.{trailerLength, settingsPerCall, settingsDistance, callsDistance};
+ghost use Rattle.trailer.specs.File.{allKinds, settingsDistance};
+ghost use Rattle.trailer.specs.Trailer.{toldBy, LaidOut};
 ghost use Rattle.planfile.specs.Checks.{tableChecks};
-ghost use Rattle.planfile.specs.Reader.{toldNet, isTrailer, distancesStated, toldBy, LaidOut, TakenApart, layoutChecks, Reads};
+ghost use Rattle.planfile.specs.Reader.{layoutChecks, fileAnswer, Reads};
 use calls::Verdict;
 use shelf::Network;
-use shelf::Sized;
+use trailer::Kinds;
+use trailer::Layout;
+use trailer::Told;
+use trailer::Trailer;
 
-// The two kinds of file.
-pub const CALLS_ONLY: usize = 1;
-
-pub const PLANNED: usize = 2;
-
-// The bytes of a trailer, and the most that a note may have.
-pub const TRAILER_LENGTH: usize = 12;
-
-pub const MOST_NOTE: usize = 255;
-
-// The bytes of the longest file: the longest note, the most calls, and their settings.
-pub const LONGEST_FILE: usize = MOST_NOTE
-    + 4 * Network::MOST_CALLS
-    + 3 * Network::MOST_CALLS
-    + TRAILER_LENGTH;
-
-// Where in a trailer stand kind, K, the distances back to settings and to calls, and the mark. The sizes n, m and r stand first.
-const KIND_AT: usize = 3;
-
-const COUNT_AT: usize = 4;
-
-const SETTINGS_BACK_AT: usize = 6;
-
-const CALLS_BACK_AT: usize = 8;
-
-const MARK_AT: usize = 10;
-
-// The mark at a trailer's end, two bytes as one number.
-pub const MARK: usize = 0x4157;
-
-// What a reader tells: number and row, the network's sizes, the kind, K, and where note, calls and settings begin. A refused
-// read tells zero for all but number and row. Programs in C share this record.
-#[repr(C)]
-pub struct Told {
-    pub number: usize,
-    pub row: usize,
-    pub n: usize,
-    pub m: usize,
-    pub r: usize,
-    pub kind: usize,
-    pub count: usize,
-    pub note_at: usize,
-    pub calls_at: usize,
-    pub settings_at: usize,
-}
-
-// What a whole trailer says of its file.
-pub struct Layout {
-    pub net: Network,
-    pub kind: usize,
-    pub count: usize,
-    pub trailer_at: usize,
-    pub calls_at: usize,
-    pub settings_at: usize,
-}
-
-// What taking the trailer apart answers: the layout, or a refusal.
-pub enum Trailer {
-    Whole(Layout),
-    Refused(Verdict),
-}
-
-// Reads a file: 0 and K with what the trailer says, or the first refusal in the order 14, 1, 3, 15, 5, 6, 7, then for a planned
-// file row by row 9 to 13. No row is touched before the trailer is taken apart. Nothing is asked of the input.
+// Reads a file of any kind: 0 and K with what the trailer says, or the first refusal in the order 14, 1, 3, 15, 5, 6, 7, then for a planned
+// file row by row 9 to 13. Nothing is asked of the input.
 pub fn read(file: &[u8]) -> Told
-    ensures { λ told. ⌜ Reads (now (file .entry)) told ⌝ }
+    ensures { λ told. ⌜ Reads allKinds (now (file .entry)) told ⌝ }
 {
-    let answer = take_trailer(file);
-    let Trailer::Whole(layout) = answer else {
-        return told_by(answer);
-    };
-    let rows = check_layout(file, layout);
-    if rows.number != 0 {
-        return told_by(Trailer::Refused(rows));
-    }
-    told_by(answer)
-}
-
-// Takes the trailer apart: the layout, or refusal 14, 1, 3 or 15.
-pub fn take_trailer(file: &[u8]) -> Trailer
-    ensures { λ answer. ⌜ TakenApart (now (file .entry)) answer ⌝ }
-{
-    if file.len() < TRAILER_LENGTH {
-        return Trailer::Refused(Verdict { number: 14, row: 0 });
-    }
-    let trailer_at = file.len() - TRAILER_LENGTH;
-    let trailer = &file[trailer_at..];
-    if !is_trailer(trailer) {
-        return Trailer::Refused(Verdict { number: 14, row: 0 });
-    }
-    let Sized::Made(net) = network_in(trailer) else {
-        return Trailer::Refused(Verdict { number: 1, row: 0 });
-    };
-    let kind = ground::byte_at(trailer, KIND_AT);
-    let count = ground::number_at(trailer, COUNT_AT);
-    if Network::MOST_CALLS < count {
-        return Trailer::Refused(Verdict { number: 3, row: 0 });
-    }
-    let settings_back = ground::number_at(trailer, SETTINGS_BACK_AT);
-    let calls_back = ground::number_at(trailer, CALLS_BACK_AT);
-    if !are_stated(kind, count, settings_back, calls_back, trailer_at) {
-        return Trailer::Refused(Verdict { number: 15, row: 0 });
-    }
-    Trailer::Whole(Layout {
-        net,
-        kind,
-        count,
-        trailer_at,
-        calls_at: trailer_at - calls_back,
-        settings_at: trailer_at - settings_back,
-    })
-}
-
-// Whether twelve bytes have the mark at their end, and a kind that there is.
-fn is_trailer(trailer: &[u8]) -> bool
-    requires { ⌜ trailerLength ≤ length (now trailer) ⌝ }
-    ensures { λ b. ⌜ b ≡ isTrailer (now (trailer .entry)) ⌝ }
-{
-    if ground::number_at(trailer, MARK_AT) != MARK {
-        return false;
-    }
-    let kind = ground::byte_at(trailer, KIND_AT);
-    if kind == CALLS_ONLY {
-        return true;
-    }
-    kind == PLANNED
-}
-
-// The network of the sizes that a trailer tells, refused where one of them is outside its limits.
-fn network_in(trailer: &[u8]) -> Sized
-    requires { ⌜ trailerLength ≤ length (now trailer) ⌝ }
-    ensures { λ s. ⌜ s ≡ sized (toldNet (now (trailer .entry))) ⌝ }
-{
-    Network::new(
-        ground::byte_at(trailer, 0),
-        ground::byte_at(trailer, 1),
-        ground::byte_at(trailer, 2),
-    )
-}
-
-// Whether the distances are as stated for the kind and K, no more than stands before the trailer, and leave a note that is
-// not too long.
-fn are_stated(
-    kind: usize,
-    count: usize,
-    settings_back: usize,
-    calls_back: usize,
-    start: usize,
-) -> bool
-    requires { ⌜ count ≤ mostCalls ⌝ }
-    ensures { λ b. ⌜ b ≡ distancesStated kind count «settings_back» «calls_back» start ⌝ }
-{
-    if settings_back != settings_distance(kind, count) {
-        return false;
-    }
-    if calls_back != calls_distance(kind, count) {
-        return false;
-    }
-    if start < calls_back {
-        return false;
-    }
-    start - calls_back <= MOST_NOTE
-}
-
-// The bytes of settings for each call in a file of this kind.
-pub fn settings_per_call(kind: usize) -> usize
-    ensures { λ per. ⌜ (per ≡ settingsPerCall kind) × (per ≤ 3) ⌝ }
-{
-    if kind == PLANNED { 3 } else { 0 }
-}
-
-// How far back from the trailer's start the first settings row stands.
-pub fn settings_distance(kind: usize, count: usize) -> usize
-    requires { ⌜ count ≤ mostCalls ⌝ }
-    ensures { λ back. ⌜ (back ≡ settingsDistance kind count) × (back ≤ 3 * count) ⌝ }
-{
-    settings_per_call(kind) * count
-}
-
-// How far back from the trailer's start the first call row stands.
-pub fn calls_distance(kind: usize, count: usize) -> usize
-    requires { ⌜ count ≤ mostCalls ⌝ }
-    ensures { λ back. ⌜ back ≡ callsDistance kind count ⌝ }
-{
-    4 * count + settings_distance(kind, count)
+    told_by(check_file(Kinds::all(), file))
 }
 
 // What a reader tells that ends with this answer: of a whole file 0 and K, and its layout, where the note stands first; of a refusal
@@ -214,6 +38,7 @@ fn told_by(answer: Trailer) -> Told
                 n: net.n,
                 m: net.m,
                 r: net.r,
+                w: net.w,
                 kind: layout.kind,
                 count: layout.count,
                 note_at: 0,
@@ -227,6 +52,7 @@ fn told_by(answer: Trailer) -> Told
             n: 0,
             m: 0,
             r: 0,
+            w: 0,
             kind: 0,
             count: 0,
             note_at: 0,
@@ -234,6 +60,21 @@ fn told_by(answer: Trailer) -> Told
             settings_at: 0,
         },
     }
+}
+
+// A reader of these kinds: the layout of a file that it takes, or its refusal. No row is touched before the trailer is taken apart.
+pub fn check_file(kinds: Kinds, file: &[u8]) -> Trailer
+    ensures { λ answer. ⌜ answer ≡ fileAnswer kinds (now (file .entry)) ⌝ }
+{
+    let answer = trailer::take_trailer(kinds, file);
+    let Trailer::Whole(layout) = answer else {
+        return answer;
+    };
+    let rows = check_layout(file, layout);
+    if rows.number != 0 {
+        return Trailer::Refused(rows);
+    }
+    answer
 }
 
 // The checks of the rows of a file with this layout.
@@ -258,8 +99,8 @@ pub fn check_table(net: Network, kind: usize, calls: &[u8], settings: &[u8]) -> 
     requires { ⌜ T (withinLimits net) × (length (now settings) ≡ settingsDistance kind (rowCount (now calls))) ⌝ }
     ensures { λ v. ⌜ v ≡ tableChecks net kind (now (calls .entry)) (now (settings .entry)) ⌝ }
 {
-    if kind != PLANNED {
-        return calls::check_calls(net, calls);
+    if trailer::has_settings(kind) {
+        return acceptance::check_rows(net, calls, settings);
     }
-    acceptance::check_rows(net, calls, settings)
+    calls::check_calls(net, calls)
 }

@@ -1,6 +1,6 @@
--- What the writers answer and what they leave in the buffer, as functions of their input: one definition for both kinds.
+-- What the writers answer and what they leave in the buffer, as functions of their input: one definition for all kinds.
 --   longNote note, shortBuffer size room == 16 and 4, for a file of `size` bytes and a buffer of `room` bytes
---   untoldCycle net       == 18
+--   otherCycle net, untoldCycle kind net == 18: W is not the larger of r and m, and the kind has no place for it
 --   partChecks kind net note calls settings room == 1, 2, 3, 16, 4, then the checks of the rows, then 18
 --   writerVerdict ..      == the answer
 --   writeBuffer ..        == the buffer afterwards
@@ -9,7 +9,7 @@
 --   layoutWith net kind note calls settings == the layout of the file of these parts
 --   GivenBack ..          == what a reader tells is this layout, its network is this, and the parts there are these
 use mathlib.Core.Path.{_≡_}
-use mathlib.Core.Bool.{not, cond}
+use mathlib.Core.Bool.{false, not, cond}
 use mathlib.Core.List.{List, [], _∷_}
 use Prim.Native.Nat.{ℕ, _+_, _≤_}
 use lib.Dec.{T, eqb, ltb}
@@ -20,13 +20,14 @@ use Rattle.shelf.specs.Network.{withinLimits, hasLeastCycle, mostCalls}
 use Rattle.shelf.specs.Rows.{rowCount}
 use Rattle.shelf.specs.Light.{Lawful}
 use Rattle.calls.specs.declared.Verdict.{Verdict}
-use Rattle.calls.specs.Verdict.{refusedIf, answer}
+use Rattle.calls.specs.Verdict.{passed, refusedIf, answer}
 use Rattle.calls.specs.Table.{sizeChecks, InOrder}
-use Rattle.planfile.specs.declared.Layout.{Layout}
-use Rattle.planfile.specs.declared.Told.{Told}
-use Rattle.planfile.specs.File.{planned, mostNote, settingsPerCall, fileOf}
+use Rattle.trailer.specs.declared.Layout.{Layout}
+use Rattle.trailer.specs.declared.Told.{Told}
+use Rattle.trailer.specs.File.{hasSettings, hasCycle, mostNote, settingsPerCall, fileOf}
+use Rattle.trailer.specs.Trailer.{wholeTold}
 use Rattle.planfile.specs.Checks.{tableChecks}
-use Rattle.planfile.specs.Reader.{wholeTold, noteIn, callsIn, settingsIn, netOf}
+use Rattle.planfile.specs.Reader.{noteIn, callsIn, settingsIn, netOf}
 
 -- 16: "note to be written above 255 bytes"
 unfoldable pub longNote : List ℕ → Verdict
@@ -36,9 +37,12 @@ longNote note = refusedIf 16 0 (ltb mostNote (length note))
 unfoldable pub shortBuffer : ℕ → ℕ → Verdict
 shortBuffer size room = refusedIf 4 0 (ltb room size)
 
--- 18: "when a file of kind 1 or 2 is asked for and W isn't the larger of r and m". The two writers are asked for just these kinds.
-unfoldable pub untoldCycle : Network → Verdict
-untoldCycle net = refusedIf 18 0 (not (hasLeastCycle net))
+-- 18: "when a file of kind 1 or 2 is asked for and W isn't the larger of r and m"
+unfoldable pub otherCycle : Network → Verdict
+otherCycle net = refusedIf 18 0 (not (hasLeastCycle net))
+
+unfoldable pub untoldCycle : ℕ → Network → Verdict
+untoldCycle kind net = cond (hasCycle kind) passed (otherCycle net)
 
 -- "File writer: 1, 2, 3, 16, 4, then as acceptance from 5."; 18 comes "after a writer's other checks". Of calls-only files "the writer of one is given settings of
 -- no bytes, else 2".
@@ -48,7 +52,7 @@ partChecks kind net note calls settings room =
     ∷ longNote note
     ∷ shortBuffer (length (fileOf net kind note calls settings)) room
     ∷ tableChecks net kind calls settings
-    ∷ untoldCycle net
+    ∷ untoldCycle kind net
     ∷ []
 
 unfoldable pub writerVerdict : ℕ → Network → List ℕ → List ℕ → List ℕ → ℕ → Verdict
@@ -76,11 +80,11 @@ pub record Writes (kind : ℕ) (net : Network) (note calls settings before after
   pub tells-K : v .number ≡ 0 → v .row ≡ rowCount calls
   -- what is written is a table in order, and if planned its settings are lawful
   pub in-order : v .number ≡ 0 → InOrder net calls
-  pub lawful : v .number ≡ 0 → kind ≡ planned → Lawful net calls settings
-  -- what is written tells no cycle, and W is the one that a reader takes
-  pub least-cycle : v .number ≡ 0 → T (hasLeastCycle net)
+  pub lawful : v .number ≡ 0 → T (hasSettings kind) → Lawful net calls settings
+  -- where what is written has no place for the cycle, W is the one that a reader takes
+  pub least-cycle : v .number ≡ 0 → hasCycle kind ≡ false → T (hasLeastCycle net)
 
--- ---- what writing then reading gives back: n, m, r (and with them W), kind, K and where note, calls and settings begin
+-- ---- what writing then reading gives back: n, m, r, W, kind, K and where note, calls and settings begin
 
 unfoldable pub layoutWith : Network → ℕ → List ℕ → List ℕ → List ℕ → Layout
 layoutWith net kind note calls settings = record {

@@ -6,37 +6,47 @@
 --   one-answer           == two answers that satisfy it are the same, with the buffers that they leave
 use mathlib.Core.Path.{_≡_, refl, sym, _∙_}
 use mathlib.Core.Logic.{_↔_}
+use mathlib.Core.Bool.{Bool, true, false, cond}
 use mathlib.Core.List.{List}
 use Prim.Native.Nat.{ℕ, _+_, _≤_}
 use lib.Dec.{T, ltb}
 use lib.ListN.{length}
 use borrow.Author.Tests.{ne-eqb}
-use Rattle.ground.specs.TruthLaws.{holds-is}
+use Rattle.ground.specs.TruthLaws.{holds-is, not-both}
 use Rattle.ground.specs.Numbers.{at-most-is}
 use Rattle.ground.specs.Bytes.{front}
 use Rattle.shelf.specs.declared.Network.{Network}
 use Rattle.shelf.specs.Network.{hasLeastCycle}
 use Rattle.shelf.specs.Rows.{rowCount}
 use Rattle.calls.specs.declared.Verdict.{Verdict}
-use Rattle.calls.specs.Verdict.{success, inTurn, AllPass}
+use Rattle.calls.specs.Verdict.{passed, success, inTurn, AllPass}
 use Rattle.calls.specs.VerdictLaws.{turn-passes, answer-passes, answer-refused, answer-passed, refused-zero}
-use Rattle.planfile.specs.File.{trailerLength, mostNote, fileOf, longestFile}
+use Rattle.trailer.specs.File.{hasCycle, trailerLength, mostNote, fileOf, longestOf}
+use Rattle.trailer.specs.FileLaws.{length-file}
 use Rattle.planfile.specs.Checks.{tableChecks}
 use Rattle.planfile.specs.ChecksLaws.{Measured, measured, table-lawful, longest-file}
-use Rattle.planfile.specs.FileLaws.{length-file}
-use Rattle.planwriter.specs.Writer.{longNote, shortBuffer, untoldCycle, partChecks, writerVerdict, writeBuffer, HasRoom, Writes}
+use Rattle.planwriter.specs.Writer.{longNote, shortBuffer, otherCycle, untoldCycle, partChecks, writerVerdict, writeBuffer, HasRoom, Writes}
 
 pub record PartsPass (kind : ℕ) (net : Network) (note calls settings : List ℕ) (room : ℕ) : Type 0 where
   pub sizes : Measured kind net calls settings
   pub short-note : length note ≤ mostNote
   pub enough : length (fileOf net kind note calls settings) ≤ room
   pub rows : tableChecks net kind calls settings .number ≡ 0
-  pub least : T (hasLeastCycle net)
+  pub least : hasCycle kind ≡ false → T (hasLeastCycle net)
+
+-- 18 refuses no W that the trailer holds, nor the larger of r and m
+told-or-least : (kind : ℕ) (net : Network) → (untoldCycle kind net .number ≡ 0) ↔ (hasCycle kind ≡ false → T (hasLeastCycle net))
+unfolding untoldCycle otherCycle passed
+told-or-least kind net = go (hasCycle kind)
+  where
+    go : (b : Bool) → (cond b passed (otherCycle net) .number ≡ 0) ↔ (b ≡ false → T (hasLeastCycle net))
+    go true = (λ z e. not-both refl e, λ h. refl)
+    go false = (λ z e. holds-is (hasLeastCycle net) .0 (refused-zero 17 0 _ .0 z), λ h. refused-zero 17 0 _ .1 (holds-is (hasLeastCycle net) .1 (h refl)))
 
 module _ (kind : ℕ) (net : Network) (note calls settings : List ℕ) where
   module _ (room : ℕ) where
     pub parts-pass : AllPass (partChecks kind net note calls settings room) ↔ PartsPass kind net note calls settings room
-    unfolding partChecks longNote shortBuffer untoldCycle
+    unfolding partChecks longNote shortBuffer
     parts-pass = (
       λ (sizes, (sixteen, (four, (table, (eighteen, _))))).
           record {
@@ -44,7 +54,7 @@ module _ (kind : ℕ) (net : Network) (note calls settings : List ℕ) where
             short-note = at-most-is (length note) mostNote .0 (refused-zero 15 0 _ .0 sixteen);
             enough = at-most-is (length (fileOf net kind note calls settings)) room .0 (refused-zero 3 0 _ .0 four);
             rows = table;
-            least = holds-is (hasLeastCycle net) .0 (refused-zero 17 0 _ .0 eighteen);
+            least = told-or-least kind net .0 eighteen;
           },
       λ h. (
         measured kind net calls settings .1 (h .sizes),
@@ -52,7 +62,7 @@ module _ (kind : ℕ) (net : Network) (note calls settings : List ℕ) where
           refused-zero 15 0 _ .1 (at-most-is (length note) mostNote .1 (h .short-note)),
           (
             refused-zero 3 0 _ .1 (at-most-is (length (fileOf net kind note calls settings)) room .1 (h .enough)),
-            (h .rows, (refused-zero 17 0 _ .1 (holds-is (hasLeastCycle net) .1 (h .least)), tt)),
+            (h .rows, (told-or-least kind net .1 (h .least), tt)),
           ),
         ),
       ),
@@ -62,7 +72,7 @@ module _ (kind : ℕ) (net : Network) (note calls settings : List ℕ) where
     unfolding writerVerdict
     writer-passes = answer-passes _ (rowCount calls)
 
-    pub room-test : ltb room (length (fileOf net kind note calls settings)) ≡ ltb room (length note + length calls + length settings + trailerLength)
+    pub room-test : ltb room (length (fileOf net kind note calls settings)) ≡ ltb room (length note + length calls + length settings + trailerLength kind)
     room-test = rw length-file
 
   -- what the checks found is the answer where they refuse, and else the file is put at the buffer's front
@@ -110,7 +120,7 @@ module _ (kind : ℕ) (net : Network) (note calls settings before after : List �
   pub written-passes : PartsPass kind net note calls settings (length before)
   written-passes = parts-pass kind net note calls settings (length before) .0 (writer-passes kind net note calls settings (length before) .0 (rw (w .answer) at z))
 
-  pub longest-written : length (fileOf net kind note calls settings) ≤ longestFile
+  pub longest-written : length (fileOf net kind note calls settings) ≤ longestOf kind
   longest-written = longest-file kind net calls settings (written-passes .sizes) note (written-passes .short-note)
 
 -- two answers that satisfy the guarantee are the same, and so are the buffers that they leave

@@ -1,5 +1,6 @@
-// The writers of plan files, one for each kind: any parts are written or refused. How a file is laid out is stated once, by the crate below, and
+// The writers of plan files, one for each kind: any parts are written or refused. How a file is laid out is stated once, by the crate `trailer`, and
 // that files read back as written is a law over reader and writers (specs/RoundTrips.antt).
+ghost use mathlib.Core.List.{_∷_};
 ghost use mathlib.Core.Path.{_≡_};
 ghost use Prim.Native.Nat.{_≤_, _<_};
 ghost use lib.Dec.{T};
@@ -7,7 +8,7 @@ ghost use lib.ListN.{length};
 ghost use Rattle.ground.specs.Bytes.{front};
 ghost use Rattle.shelf.specs.Network.{withinLimits, mostCalls};
 ghost use Rattle.calls.specs.Verdict.{inTurn};
-ghost use Rattle.planfile.specs.File.{callsOnly, planned, trailerOf, fileOf};
+ghost use Rattle.trailer.specs.File.{callsOnly, planned, callsWithCycle, plannedWithCycle, lastTwelve, fileOf};
 ghost use Rattle.planwriter.specs.Writer.{partChecks, HasRoom, Writes};
 use calls::Verdict;
 use shelf::Network;
@@ -24,7 +25,7 @@ pub fn write_calls(
 ) -> Verdict
     ensures { λ v. ⌜ Writes callsOnly net (now (note .entry)) (now (calls .entry)) (now (settings .entry)) (now (out .entry)) (now (out .exit)) v ⌝ }
 {
-    write(net, planfile::CALLS_ONLY, note, calls, settings, out)
+    write(net, trailer::CALLS_ONLY, note, calls, settings, out)
 }
 
 // Writes a planned file in the same way, with 3 bytes of settings for each call: after 7 it tries row by row 9 to 13, then 18.
@@ -37,7 +38,33 @@ pub fn write_planned(
 ) -> Verdict
     ensures { λ v. ⌜ Writes planned net (now (note .entry)) (now (calls .entry)) (now (settings .entry)) (now (out .entry)) (now (out .exit)) v ⌝ }
 {
-    write(net, planfile::PLANNED, note, calls, settings, out)
+    write(net, trailer::PLANNED, note, calls, settings, out)
+}
+
+// Writes a calls-only file that holds the cycle, in the order 1, 2, 3, 16, 4, 5, 6, 7: no network is refused 18.
+pub fn write_calls_with_cycle(
+    net: Network,
+    note: &[u8],
+    calls: &[u8],
+    settings: &[u8],
+    out: &mut [u8],
+) -> Verdict
+    ensures { λ v. ⌜ Writes callsWithCycle net (now (note .entry)) (now (calls .entry)) (now (settings .entry)) (now (out .entry)) (now (out .exit)) v ⌝ }
+{
+    write(net, trailer::CALLS_WITH_CYCLE, note, calls, settings, out)
+}
+
+// Writes a planned file that holds the cycle in the same way: after 7 it tries row by row 9 to 13.
+pub fn write_planned_with_cycle(
+    net: Network,
+    note: &[u8],
+    calls: &[u8],
+    settings: &[u8],
+    out: &mut [u8],
+) -> Verdict
+    ensures { λ v. ⌜ Writes plannedWithCycle net (now (note .entry)) (now (calls .entry)) (now (settings .entry)) (now (out .entry)) (now (out .exit)) v ⌝ }
+{
+    write(net, trailer::PLANNED_WITH_CYCLE, note, calls, settings, out)
 }
 
 // Writes a file of this kind, where the checks of its parts pass.
@@ -62,15 +89,23 @@ fn write(
 }
 
 // Puts the file of these parts at the front of `out`, which has room for it.
-fn put_file(net: Network, kind: usize, note: &[u8], calls: &[u8], settings: &[u8], out: &mut [u8])
+pub fn put_file(
+    net: Network,
+    kind: usize,
+    note: &[u8],
+    calls: &[u8],
+    settings: &[u8],
+    out: &mut [u8],
+)
     requires { ⌜ (kind < 256) × HasRoom kind net (now note) (now calls) (now settings) (length (now out)) ⌝ }
     ensures { λ _. ⌜ now (out .exit) ≡ front (now (out .entry)) (fileOf net kind (now (note .entry)) (now (calls .entry)) (now (settings .entry))) ⌝ }
 {
-    let trailer = trailer_of(net, kind, calls.len() / 4);
+    let longer = trailer_of(net, kind, calls.len() / 4);
     let calls_at = ground::write_bytes(out, 0, note);
     let settings_at = ground::write_bytes(out, calls_at, calls);
     let trailer_at = ground::write_bytes(out, settings_at, settings);
-    ground::write_bytes(out, trailer_at, &trailer);
+    let shorter = trailer::LONG_TRAILER - trailer::trailer_length(kind);
+    ground::write_bytes(out, trailer_at, &longer[shorter..]);
 }
 
 // The checks of the parts of a file that is to be written, in a writer's order.
@@ -88,13 +123,13 @@ fn check_parts(
         net,
         calls.len(),
         settings.len(),
-        planfile::settings_per_call(kind),
+        trailer::settings_per_call(kind),
     );
     if sizes.number != 0 {
         return sizes;
     }
-    let size = note.len() + calls.len() + settings.len() + planfile::TRAILER_LENGTH;
-    if planfile::MOST_NOTE < note.len() {
+    let size = note.len() + calls.len() + settings.len() + trailer::trailer_length(kind);
+    if trailer::MOST_NOTE < note.len() {
         return Verdict { number: 16, row: 0 };
     }
     if room < size {
@@ -104,20 +139,25 @@ fn check_parts(
     if rows.number != 0 {
         return rows;
     }
+    if trailer::has_cycle(kind) {
+        return Verdict { number: 0, row: 0 };
+    }
     if !net.has_least_cycle() {
         return Verdict { number: 18, row: 0 };
     }
     Verdict { number: 0, row: 0 }
 }
 
-// The trailer of a file with `count` calls.
-fn trailer_of(net: Network, kind: usize, count: usize) -> [u8; planfile::TRAILER_LENGTH]
+// The longer trailer of a file with `count` calls, whose last twelve bytes are the shorter one.
+fn trailer_of(net: Network, kind: usize, count: usize) -> [u8; trailer::LONG_TRAILER]
     requires { ⌜ T (withinLimits net) × (kind < 256) × (count ≤ mostCalls) ⌝ }
-    ensures { λ trailer. ⌜ trailer ≡ trailerOf net kind count ⌝ }
+    ensures { λ bytes. ⌜ bytes ≡ net .w ∷ 0 ∷ lastTwelve net kind count ⌝ }
 {
-    let settings_back = planfile::settings_distance(kind, count);
-    let calls_back = planfile::calls_distance(kind, count);
+    let settings_back = trailer::settings_distance(kind, count);
+    let calls_back = trailer::calls_distance(kind, count);
     [
+        net.w as u8,
+        0,
         net.n as u8,
         net.m as u8,
         net.r as u8,
@@ -128,7 +168,7 @@ fn trailer_of(net: Network, kind: usize, count: usize) -> [u8; planfile::TRAILER
         ground::low_byte(settings_back),
         ground::high_byte(calls_back),
         ground::low_byte(calls_back),
-        ground::high_byte(planfile::MARK),
-        ground::low_byte(planfile::MARK),
+        ground::high_byte(trailer::MARK),
+        ground::low_byte(trailer::MARK),
     ]
 }

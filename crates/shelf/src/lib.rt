@@ -53,7 +53,7 @@ impl Network {
         net.tested()
     }
 
-    // The record of these sizes whose cycle is the larger of r and m: that of a file, which tells no cycle. It is not tested.
+    // The record of these sizes whose cycle is the larger of r and m: that of a table with no cycle told. It is not tested.
     pub fn of_sizes(n: usize, m: usize, r: usize) -> Network
         ensures { λ net. ⌜ net ≡ ofSizes n m r ⌝ }
     {

@@ -1,7 +1,7 @@
 // Stored inputs, answered by the compiled entries: what is printed is compared with the answers of an independent
 // implementation. An input has a head of 53 bytes: the entry by one byte; n, m, r, the cycle and a row by eight bytes each; then the
 // lengths of note, calls, settings and of three rooms by two bytes each, all with the high byte first. The bytes of these six follow.
-// A file to be read or listed stands in the place of the calls, a call to be added in that of the note. For each input a line is
+// A file to be read, listed or converted stands in the place of the calls, a call to be added in that of the note. For each input a line is
 // printed: the numbers that the entry answers, then each byte of the rooms as the entry left them. Of a listing the numbers are the
 // length of the text and how many bytes beyond it were changed in the buffer, and the bytes are those of the text.
 ghost use Prim.Native.Nat.{_+_, _≤_};
@@ -27,6 +27,14 @@ const LIST: u8 = 5;
 const ADD: u8 = 6;
 
 const DROP: u8 = 7;
+
+const WRITE_CALLS_WITH_CYCLE: u8 = 8;
+
+const WRITE_PLANNED_WITH_CYCLE: u8 = 9;
+
+const CONVERT_TO_NEW: u8 = 10;
+
+const CONVERT_TO_OLD: u8 = 11;
 
 // Where in a head n, m, r, the cycle, the row and the lengths of note, calls, settings and rooms stand, and the bytes of the whole
 // head.
@@ -210,13 +218,37 @@ fn answer_table(
     if entry == READ {
         return show_told(planfile::read(calls));
     }
-    if entry == WRITE_CALLS {
-        return show_verdict(planwriter::write_calls(net, note, calls, settings, room));
-    }
     if entry == LIST {
         return show_listing(calls);
     }
-    show_verdict(planwriter::write_planned(net, note, calls, settings, room));
+    if entry == CONVERT_TO_NEW {
+        return show_verdict(conversion::convert_to_new(calls, room));
+    }
+    if entry == CONVERT_TO_OLD {
+        return show_verdict(conversion::convert_to_old(calls, room));
+    }
+    show_verdict(written(entry, net, note, calls, settings, room));
+}
+
+// What the writer answers that the entry names.
+fn written(
+    entry: u8,
+    net: Network,
+    note: &[u8],
+    calls: &[u8],
+    settings: &[u8],
+    room: &mut [u8],
+) -> Verdict {
+    if entry == WRITE_CALLS {
+        return planwriter::write_calls(net, note, calls, settings, room);
+    }
+    if entry == WRITE_CALLS_WITH_CYCLE {
+        return planwriter::write_calls_with_cycle(net, note, calls, settings, room);
+    }
+    if entry == WRITE_PLANNED_WITH_CYCLE {
+        return planwriter::write_planned_with_cycle(net, note, calls, settings, room);
+    }
+    planwriter::write_planned(net, note, calls, settings, room)
 }
 
 // Prints the numbers and the text of a listing.
@@ -255,12 +287,13 @@ fn show_verdict(verdict: Verdict) {
 }
 
 // Prints all that a reader tells.
-fn show_told(told: planfile::Told) {
+fn show_told(told: trailer::Told) {
     show(told.number);
     show(told.row);
     show(told.n);
     show(told.m);
     show(told.r);
+    show(told.w);
     show(told.kind);
     show(told.count);
     show(told.note_at);

@@ -2,7 +2,7 @@
 use mathlib.Core.Path.{sym, _∙_}
 use borrow.Author.Needs.{needs}
 use Rattle.shelf.specs.Network.{mostCalls}
-use Rattle.planfile.specs.ChecksLaws.{longest-is}
+use Rattle.trailer.specs.FileLaws.{longest-is}
 use Rattle.lines.specs.TextLaws.{too-long-is}
 use Rattle.lines.specs.Writing.{byteDigits, rowDigits, numberDigits, mostSizes, mostFirstLine, mostRowLine, longestListing}
 use Rattle.lines.specs.Listing.{long-listing, told-listing, lists}

@@ -4,7 +4,7 @@ use borrow.Author.Needs.{needs}
 use denote.Ref.{now}
 use Rattle.ground.specs.Bytes.{part}
 use Rattle.ground.specs.BytesLaws.{length-part}
-use Rattle.planfile.specs.FileLaws.{rows-part}
+use Rattle.trailer.specs.FileLaws.{rows-part}
 use Rattle.planfile.specs.Reader.{layoutChecks}
 use Rattle.planfile.proofs.check_layout.Statement.{statement}
 use Rattle.planfile.proofs.check_layout.Tie as tie

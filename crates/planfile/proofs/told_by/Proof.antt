@@ -1,7 +1,7 @@
 -- `planfile::told_by` meets its contract, case by case.
 use mathlib.Core.Path.{sym, ap}
 use borrow.Author.Needs.{needs}
-use Rattle.planfile.specs.Reader.{wholeTold, refusedTold, toldBy}
+use Rattle.trailer.specs.Trailer.{wholeTold, refusedTold, toldBy}
 use Rattle.planfile.proofs.told_by.Statement.{statement}
 use Rattle.planfile.proofs.told_by.Tie as tie
 

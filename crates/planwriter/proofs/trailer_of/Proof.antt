@@ -4,15 +4,15 @@ use native.Mathlib.Omega.{arith}
 use lib.Dec.{T}
 use borrow.Author.Needs.{needs}
 use Rattle.shelf.specs.declared.Network.{Network}
-use Rattle.shelf.specs.Network.{mostChannels, mostCentrals, mostModules, withinLimits}
+use Rattle.shelf.specs.Network.{mostChannels, mostCentrals, mostModules, mostWavelengths, cycle, withinLimits}
 use Rattle.shelf.specs.NetworkLaws.{limits-are}
-use Rattle.planfile.specs.File.{mark, trailerOf}
+use Rattle.trailer.specs.File.{mark, lastTwelve}
 use Rattle.planwriter.proofs.trailer_of.Statement.{statement}
 use Rattle.planwriter.proofs.trailer_of.Tie as tie
 
 -- sizes within their limits are bytes
-small-sizes : (net : Network) → T (withinLimits net) → (net .n < 256) × (net .m < 256) × (net .r < 256)
-unfolding mostChannels mostCentrals mostModules
+small-sizes : (net : Network) → T (withinLimits net) → (net .w < 256) × (net .n < 256) × (net .m < 256) × (net .r < 256)
+unfolding mostChannels mostCentrals mostModules mostWavelengths cycle
 small-sizes net h = let l = limits-are net .0 h in omega arith
 
 settings-distance-requires : tie.Need-settings-distance-requires
@@ -31,7 +31,10 @@ cast-t8 : tie.Need-cast-t8
 cast-t8 c = record { fits = small-sizes _ (c .before .before .before .before .before .pre .0) .2 }
 
 cast-t9 : tie.Need-cast-t9
-cast-t9 c = search needs
+cast-t9 c = record { fits = small-sizes _ (c .before .before .before .before .before .before .pre .0) .3 }
+
+cast-t10 : tie.Need-cast-t10
+cast-t10 c = search needs
 
 high-byte-requires : tie.Need-high-byte-requires
 high-byte-requires c κs = search needs
@@ -58,7 +61,7 @@ low-byte-requires-4 : tie.Need-low-byte-requires-4
 low-byte-requires-4 c κs = search needs
 
 returns : tie.Need-returns
-unfolding trailerOf mark
+unfolding lastTwelve mark
 returns c = cc
 
 pub trailer-of-spec : {M : Type 1} → statement M
@@ -71,6 +74,7 @@ trailer-of-spec =
     cast-t7
     cast-t8
     cast-t9
+    cast-t10
     high-byte-requires
     low-byte-requires
     high-byte-requires-2

@@ -1,6 +1,6 @@
 -- `planwriter::write_calls` meets its contract: a calls-only file is a file of kind 1.
 use borrow.Author.Needs.{needs}
-use Rattle.planfile.specs.File.{callsOnly}
+use Rattle.trailer.specs.File.{callsOnly}
 use Rattle.planwriter.proofs.write_calls.Statement.{statement}
 use Rattle.planwriter.proofs.write_calls.Tie as tie
 

@@ -1,6 +1,6 @@
 -- `planwriter::write_planned` meets its contract: a planned file is a file of kind 2.
 use borrow.Author.Needs.{needs}
-use Rattle.planfile.specs.File.{planned}
+use Rattle.trailer.specs.File.{planned}
 use Rattle.planwriter.proofs.write_planned.Statement.{statement}
 use Rattle.planwriter.proofs.write_planned.Tie as tie
 

@@ -1,0 +1,5 @@
+pub mod File
+pub mod Trailer
+pub mod KindLaws
+pub mod FileLaws
+pub mod TrailerLaws
