@@ -15,6 +15,7 @@ mod listed;
 mod step_faults;
 mod steps;
 mod with_cycle;
+mod words;
 mod worked;
 
 use crate::inputs::{drawn_of_files, drawn_of_sizes, drawn_of_tables, drawn_steps, Input};
@@ -22,7 +23,7 @@ use crate::stored_form::{stored_input, Stored};
 
 /// All stored inputs: those of the entries for whole tables, then the files to be listed, then those
 /// that add a call or drop one; and then those of files that tell the cycle, and of conversions, and
-/// such files to be listed.
+/// such files to be listed; and last those for records that are words.
 pub fn stored_inputs() -> Vec<Stored> {
     let groups = [
         of_entries(table_inputs()),
@@ -30,6 +31,7 @@ pub fn stored_inputs() -> Vec<Stored> {
         of_entries(step_inputs()),
         of_entries(file_inputs()),
         to_be_listed(listed::listed_with_cycle()),
+        of_entries(word_inputs()),
     ];
     groups.concat()
 }
@@ -43,6 +45,11 @@ fn to_be_listed(files: Vec<Vec<u8>>) -> Vec<Stored> {
         .into_iter()
         .map(|file| Stored::List { file })
         .collect()
+}
+
+/// The stored inputs for records of use that are words.
+pub fn word_inputs() -> Vec<Input> {
+    without_repeats(words::words())
 }
 
 /// The stored inputs of files that tell the cycle, and of conversions.
@@ -130,7 +137,7 @@ mod tests {
     /// The refusals that apply decide every stored answer, and those of drawn inputs.
     #[test]
     fn refusals_that_apply_decide_the_answers() {
-        let stored = [table_inputs(), step_inputs(), file_inputs()].concat();
+        let stored = [table_inputs(), step_inputs(), file_inputs(), word_inputs()].concat();
         for input in stored.into_iter().chain(drawn(7).take(4000)) {
             let (answer, _) = answer_of(&Plain, &input);
             match owed_refusal(&input) {

@@ -472,9 +472,9 @@ pub fn compare_exhaustively(
         right,
         coverage: Coverage::default(),
     };
-    plan_small_tables(&mut both)?;
-    plan_longer_tables(&mut both)?;
-    plan_pairs(&mut both)?;
+    for input in small_plans() {
+        both.compare(input)?;
+    }
     accept_one_row(&mut both)?;
     accept_two_rows(&mut both)?;
     try_rooms(&mut both)?;
@@ -542,50 +542,49 @@ fn plan_input(net: Network, calls: Vec<u8>) -> Input {
     }
 }
 
+/// Every small input of the planner.
+pub fn small_plans() -> impl Iterator<Item = Input> {
+    small_tables()
+        .chain(longer_tables())
+        .chain(tables_of_pairs())
+        .map(|(net, calls)| plan_input(net, calls))
+}
+
 /// Every network with sizes up to 2 and a cycle around the larger of r and m, every table of up to
 /// two rows with numbers up to 2.
-fn plan_small_tables(both: &mut Both) -> Result<(), Difference> {
-    for net in networks(2) {
-        for rows in 0..=2 {
-            for calls in strings(CALL_BYTES * rows, 2) {
-                both.compare(plan_input(net, calls))?;
-            }
-        }
-    }
-    Ok(())
+fn small_tables() -> impl Iterator<Item = (Network, Vec<u8>)> {
+    networks(2).into_iter().flat_map(|net| {
+        (0..=2)
+            .flat_map(|rows| strings(CALL_BYTES * rows, 2))
+            .map(move |calls| (net, calls))
+    })
 }
 
 /// Tables of three rows, and for 2-2-2 of four, with numbers up to 1.
-fn plan_longer_tables(both: &mut Both) -> Result<(), Difference> {
-    for net in networks(2) {
-        for calls in strings(CALL_BYTES * 3, 1) {
-            both.compare(plan_input(net, calls))?;
-        }
-    }
-    for net in tight_and_spare(2, 2, 2) {
-        for calls in strings(CALL_BYTES * 4, 1) {
-            both.compare(plan_input(net, calls))?;
-        }
-    }
-    Ok(())
+fn longer_tables() -> impl Iterator<Item = (Network, Vec<u8>)> {
+    let of_three = networks(2).into_iter().map(|net| (net, 3));
+    let of_four = tight_and_spare(2, 2, 2).into_iter().map(|net| (net, 4));
+    of_three
+        .chain(of_four)
+        .flat_map(|(net, rows)| strings(CALL_BYTES * rows, 1).map(move |calls| (net, calls)))
 }
 
 /// Tables of four and five calls between any of three input modules and three output modules, each
 /// on the next channel of its modules, with two channels and then three, and two centrals, with and
 /// without a spare wavelength: chains, full modules, and one too many.
-fn plan_pairs(both: &mut Both) -> Result<(), Difference> {
-    for net in [tight_and_spare(2, 2, 3), tight_and_spare(3, 2, 3)].concat() {
-        for rows in 4..=5 {
-            for modules in strings(2 * rows, 2) {
+fn tables_of_pairs() -> impl Iterator<Item = (Network, Vec<u8>)> {
+    let networks = [tight_and_spare(2, 2, 3), tight_and_spare(3, 2, 3)].concat();
+    networks.into_iter().flat_map(|net| {
+        (4..=5)
+            .flat_map(|rows| strings(2 * rows, 2))
+            .map(move |modules| {
                 let pairs: Vec<(usize, usize)> = modules
                     .chunks_exact(2)
                     .map(|two| (usize::from(two[0]), usize::from(two[1])))
                     .collect();
-                both.compare(plan_input(net, calls_of_pairs(&pairs)))?;
-            }
-        }
-    }
-    Ok(())
+                (net, calls_of_pairs(&pairs))
+            })
+    })
 }
 
 /// Every network with sizes up to 3 and a cycle around the larger of r and m, every row with numbers

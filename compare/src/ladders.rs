@@ -119,7 +119,11 @@ pub fn thread_modules(length: usize) -> usize {
     length / 2 + 2
 }
 
-/// The longest thread of the most modules.
+/// The longest thread of the most modules; and no chain can be longer. A chain meets no module twice.
+/// It comes to input modules by calls on a, so never to the new call's, where a is free. That module
+/// has a call on b, since otherwise b would be free at both ends; and the output module of this call,
+/// to which a chain could come on b by this call alone, is never met either. So a chain meets at most
+/// all modules but one of each side, and it has one call fewer than it meets modules.
 pub const LONGEST_THREAD: usize = 2 * Network::MOST_MODULES - 3;
 
 /// The largest network with one central more than channels. With no more centrals than channels,

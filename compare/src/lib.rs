@@ -6,10 +6,11 @@
 //! cycle of their own, request 2, by which single calls are added and dropped, and request 3, by
 //! which plan files have the cycle in them.
 //!
-//! Answers: `plain.rs`, and for speed `swift.rs`. Judgements beside them: `light.rs` and
-//! `refusals.rs`. Inputs: `inputs.rs`, `ladders.rs` and `faulty.rs`. Stored inputs: which, in
-//! `catalogue.rs`, and how, in `stored_form.rs`. The library, and the comparison: `library.rs`,
-//! `functions.rs`, `comparison.rs` and `history.rs`. Time and stack: `tables.rs` and `stack.rs`.
+//! Answers: `plain.rs`, and for speed `swift.rs`; of the planner alone, in C with an index,
+//! `indexed.rs`. Judgements beside them: `light.rs` and `refusals.rs`. Inputs: `inputs.rs`,
+//! `ladders.rs` and `faulty.rs`. Stored inputs: which, in `catalogue.rs`, and how, in
+//! `stored_form.rs`. The library, and the comparison: `library.rs`, `functions.rs`, `comparison.rs`
+//! and `history.rs`. Time and stack: `tables.rs` and `stack.rs`.
 
 pub mod catalogue;
 pub mod comparison;
@@ -17,6 +18,7 @@ pub mod faulty;
 #[cfg(feature = "library")]
 pub mod functions;
 pub mod history;
+pub mod indexed;
 pub mod inputs;
 pub mod ladders;
 #[cfg(feature = "library")]

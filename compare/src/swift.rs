@@ -1,9 +1,9 @@
-//! The same answers, written for speed by the usual method: a record of use with one byte for each
-//! module of each side and each central, a chain that finds its next row by reading the rows placed
-//! so far from row 0 up, and marks for inlets, outlets and pairs. A single call is added in one pass
-//! over the rows for the use of its two modules, and where it needs a chain in one more for the rows
-//! on the two centrals. A file is converted by copying it in one piece up to its trailer. Everything
-//! stands on the stack.
+//! The same answers, written for speed by the usual method. Which centrals are free at a module, and
+//! which of its channels are in use, stands in one word of 32 bits each, for each module of each side;
+//! the lowest free central is found by counting trailing zeros. A chain finds its next row by reading
+//! the rows placed so far from row 0 up. A single call is added in one pass over the rows for what is
+//! free at its two modules, and where it needs a chain in one more for the rows on the two centrals. A
+//! file is converted by copying it in one piece up to its trailer. Everything stands on the stack.
 
 use crate::{
     Entries, Kind, Network, Planned, Refusal, Told, Verdict, CALL_BYTES, CYCLE_BYTES, LONGEST_NOTE,
@@ -209,7 +209,7 @@ fn check_accept(net: Network, calls: &[u8], settings: &[u8]) -> Result<usize, Re
     Ok(count)
 }
 
-/// All refusals of an add; without one, the use of the new call's modules.
+/// All refusals of an add; without one, what is free at the new call's modules.
 fn check_add(
     net: Network,
     calls: &[u8],
@@ -452,17 +452,33 @@ fn check_count(count: usize) -> Result<(), Refusal> {
 
 // The call table.
 
-/// The number of inlets, and of outlets, of the largest network.
-const ENDS: usize = Network::MOST_MODULES * Network::MOST_CHANNELS;
+/// The place of the input module in a call row; its channel stands behind it.
+const INPUT: usize = 0;
+/// The place of the output module in a call row; its channel stands behind it.
+const OUTPUT: usize = 2;
 
-/// Refusals 5, 6 and 7 in one pass: the first number outside ends it, since 5 is sought over the
-/// whole table before the others; the first repeated inlet and the first repeated outlet are kept
-/// until the table is known to be without 5.
+/// The channels in use at each module of a side, each by its bit, the lowest for channel 0.
+type Channels = [u32; Network::MOST_MODULES];
+
+/// One word is enough for all channels of a module.
+const _: () = assert!(Network::MOST_CHANNELS <= u32::BITS as usize);
+
+/// Takes a channel of a module; answers its bit if it was in use before, and otherwise 0.
+fn take_channel(channels: &mut Channels, module: usize, channel: usize) -> u32 {
+    let bit = 1 << channel;
+    let used = channels[module] & bit;
+    channels[module] |= bit;
+    used
+}
+
+/// Refusals 5, 6 and 7. One pass ends at the first number outside, since 5 is sought over the whole
+/// table before the others, and otherwise tells whether an inlet or an outlet is repeated; the first
+/// such row is sought only where there is one.
 fn check_calls(net: Network, calls: &[u8]) -> Result<(), Refusal> {
-    let mut inlets = [false; ENDS];
-    let mut outlets = [false; ENDS];
-    let mut repeated_inlet = None;
-    let mut repeated_outlet = None;
+    let mut inlets = [0; Network::MOST_MODULES];
+    let mut outlets = [0; Network::MOST_MODULES];
+    let mut repeated_inlets = 0;
+    let mut repeated_outlets = 0;
     for (row, call) in calls.chunks_exact(CALL_BYTES).enumerate() {
         let input_module = usize::from(call[0]);
         let input_channel = usize::from(call[1]);
@@ -475,24 +491,29 @@ fn check_calls(net: Network, calls: &[u8]) -> Result<(), Refusal> {
         {
             return refuse(5, row);
         }
-        let inlet = &mut inlets[Network::MOST_CHANNELS * input_module + input_channel];
-        if *inlet && repeated_inlet.is_none() {
-            repeated_inlet = Some(row);
-        }
-        *inlet = true;
-        let outlet = &mut outlets[Network::MOST_CHANNELS * output_module + output_channel];
-        if *outlet && repeated_outlet.is_none() {
-            repeated_outlet = Some(row);
-        }
-        *outlet = true;
+        repeated_inlets |= take_channel(&mut inlets, input_module, input_channel);
+        repeated_outlets |= take_channel(&mut outlets, output_module, output_channel);
     }
-    if let Some(row) = repeated_inlet {
-        return refuse(6, row);
+    if repeated_inlets != 0 {
+        return refuse(6, first_repeated::<INPUT>(calls));
     }
-    if let Some(row) = repeated_outlet {
-        return refuse(7, row);
+    if repeated_outlets != 0 {
+        return refuse(7, first_repeated::<OUTPUT>(calls));
     }
     Ok(())
+}
+
+/// The first row whose inlet, or whose outlet, is that of an earlier one, where the calls have passed
+/// 5. There is one; without one the answer would be row 0.
+fn first_repeated<const SIDE: usize>(calls: &[u8]) -> usize {
+    let mut channels = [0; Network::MOST_MODULES];
+    calls
+        .chunks_exact(CALL_BYTES)
+        .position(|call| {
+            let [module, channel] = [call[SIDE], call[SIDE + 1]].map(usize::from);
+            take_channel(&mut channels, module, channel) != 0
+        })
+        .unwrap_or(0)
 }
 
 /// Refusal 8, by a tally for each module. The calls have passed 5, 6 and 7, so a tally is 16 at
@@ -516,20 +537,85 @@ fn check_modules(net: Network, calls: &[u8]) -> Result<(), Refusal> {
     Ok(())
 }
 
-// Given settings.
+// The record of centrals.
 
-/// The number of pairs of a module and a central of the largest network.
-const PAIRS: usize = Network::MOST_MODULES * Network::MOST_CENTRALS;
+/// The centrals that are free at a module, each by its bit, the lowest for central 0. The bits from m
+/// on are never set, so that no central is found there.
+#[derive(Clone, Copy)]
+struct Free(u32);
 
-fn pair_of(module: usize, central: usize) -> usize {
-    Network::MOST_CENTRALS * module + central
+/// One word is enough for all centrals.
+const _: () = assert!(Network::MOST_CENTRALS <= u32::BITS as usize);
+
+impl Free {
+    /// All of so many centrals, of which there are one at least and 32 at most: what is shifted out is
+    /// never the whole word.
+    fn all(centrals: usize) -> Free {
+        Free(u32::MAX >> (u32::BITS - centrals as u32))
+    }
+
+    fn is_none(self) -> bool {
+        self.0 == 0
+    }
+
+    /// Whether a central, which is below the most, is free.
+    fn has(self, central: usize) -> bool {
+        self.0 & (1 << central) != 0
+    }
+
+    fn in_common(self, other: Free) -> Free {
+        Free(self.0 & other.0)
+    }
+
+    /// The lowest: as many zeros stand below its bit as there are centrals below it.
+    fn lowest(self) -> Option<usize> {
+        if self.is_none() {
+            None
+        } else {
+            Some(self.0.trailing_zeros() as usize)
+        }
+    }
+
+    /// Takes a central, which is below the most; if it isn't free, nothing changes.
+    fn take(&mut self, central: usize) {
+        self.0 &= !(1 << central);
+    }
+
+    /// Of two centrals the one that is free is taken, and the other becomes free.
+    fn exchange(&mut self, a: usize, b: usize) {
+        self.0 ^= (1 << a) | (1 << b);
+    }
 }
+
+/// What is free at each module of either side: half a KiB.
+struct Record {
+    inputs: [Free; Network::MOST_MODULES],
+    outputs: [Free; Network::MOST_MODULES],
+}
+
+impl Record {
+    /// All of so many centrals are free.
+    fn new(centrals: usize) -> Record {
+        let free = Free::all(centrals);
+        Record {
+            inputs: [free; Network::MOST_MODULES],
+            outputs: [free; Network::MOST_MODULES],
+        }
+    }
+
+    /// Takes a central at both modules of a call.
+    fn take(&mut self, input_module: usize, output_module: usize, central: usize) {
+        self.inputs[input_module].take(central);
+        self.outputs[output_module].take(central);
+    }
+}
+
+// Given settings.
 
 /// Refusals 9 to 13, each row tried for them in turn. The calls have passed 5.
 fn check_settings(net: Network, calls: &[u8], settings: &[u8]) -> Result<(), Refusal> {
     let cycle = net.cycle();
-    let mut at_inputs = [false; PAIRS];
-    let mut at_outputs = [false; PAIRS];
+    let mut record = Record::new(net.m);
     let rows = calls
         .chunks_exact(CALL_BYTES)
         .zip(settings.chunks_exact(SETTING_BYTES));
@@ -548,16 +634,13 @@ fn check_settings(net: Network, calls: &[u8], settings: &[u8]) -> Result<(), Ref
         if difference(y, central, cycle) != output_module {
             return refuse(11, row);
         }
-        let at_input = &mut at_inputs[pair_of(input_module, central)];
-        if *at_input {
+        if !record.inputs[input_module].has(central) {
             return refuse(12, row);
         }
-        *at_input = true;
-        let at_output = &mut at_outputs[pair_of(output_module, central)];
-        if *at_output {
+        if !record.outputs[output_module].has(central) {
             return refuse(13, row);
         }
-        *at_output = true;
+        record.take(input_module, output_module, central);
     }
     Ok(())
 }
@@ -583,19 +666,6 @@ fn sum(left: usize, right: usize, cycle: usize) -> usize {
 
 // The choice rule.
 
-/// For a module, whether each central is in use there: 1 where it is.
-type Use = [u8; Network::MOST_CENTRALS];
-
-/// The record of use: 4 KiB.
-struct Record {
-    inputs: [Use; Network::MOST_MODULES],
-    outputs: [Use; Network::MOST_MODULES],
-}
-
-/// The place of the input module in a call row.
-const INPUT: usize = 0;
-/// The place of the output module in a call row.
-const OUTPUT: usize = 2;
 /// The place of the central in a settings row.
 const CENTRAL: usize = 1;
 
@@ -603,56 +673,39 @@ const CENTRAL: usize = 1;
 /// `settings` has 3 bytes for each call. While calls are placed only the centrals are written
 /// there; the wavelengths follow when all stand fast.
 fn place_all(net: Network, calls: &[u8], settings: &mut [u8]) -> usize {
-    let mut record = Record {
-        inputs: [[0; Network::MOST_CENTRALS]; Network::MOST_MODULES],
-        outputs: [[0; Network::MOST_CENTRALS]; Network::MOST_MODULES],
-    };
+    let mut record = Record::new(net.m);
     let mut moved = 0;
     for (row, call) in calls.chunks_exact(CALL_BYTES).enumerate() {
         let input_module = usize::from(call[INPUT]);
         let output_module = usize::from(call[OUTPUT]);
-        let at_input = &record.inputs[input_module];
-        let at_output = &record.outputs[output_module];
-        let central = match lowest_common(at_input, at_output, net.m) {
+        let at_input = record.inputs[input_module];
+        let at_output = record.outputs[output_module];
+        let central = match at_input.in_common(at_output).lowest() {
             Some(central) => central,
             None => {
-                let a = lowest_free(at_input, net.m);
-                let b = lowest_free(at_output, net.m);
+                let a = lowest_free(at_input);
+                let b = lowest_free(at_output);
                 let placed = &mut settings[..SETTING_BYTES * row];
                 moved += exchange_chain(&mut record, calls, placed, output_module, a, b);
                 a
             }
         };
         settings[SETTING_BYTES * row + CENTRAL] = central as u8;
-        record.inputs[input_module][central] = 1;
-        record.outputs[output_module][central] = 1;
+        record.take(input_module, output_module, central);
     }
     fill_wavelengths(net.cycle(), calls, settings);
     moved
 }
 
-/// The lowest central that is free at both modules.
-fn lowest_common(at_input: &Use, at_output: &Use, centrals: usize) -> Option<usize> {
-    at_input
-        .iter()
-        .zip(at_output)
-        .take(centrals)
-        .position(|(input, output)| input | output == 0)
-}
-
 /// The lowest central that is free at a module. There is one, since a module that still awaits a
-/// call has fewer than m; without one the answer would be m less 1.
-fn lowest_free(at_module: &Use, centrals: usize) -> usize {
-    at_module
-        .iter()
-        .take(centrals)
-        .position(|&used| used == 0)
-        .unwrap_or(centrals - 1)
+/// call has fewer than m; without one the answer would be 0.
+fn lowest_free(at_module: Free) -> usize {
+    at_module.lowest().unwrap_or(0)
 }
 
 /// Changes every call of the chain that starts at an output module between a and b, sets the record
-/// right at both of its ends, and answers the number of calls changed. At the modules between its
-/// ends both centrals stay in use.
+/// right at both of its ends, where one of the two is free, and answers the number of calls changed.
+/// At the modules between its ends both centrals stay in use.
 fn exchange_chain(
     record: &mut Record,
     calls: &[u8],
@@ -664,17 +717,15 @@ fn exchange_chain(
     let mut moved = 0;
     let mut output_module = start;
     let mut row = row_at::<OUTPUT>(calls, placed, output_module, a);
-    record.outputs[start][a] = 0;
-    record.outputs[start][b] = 1;
+    record.outputs[start].exchange(a, b);
     loop {
         // The row is on a and at the output module; the next is sought before this one changes to
         // b.
         let input_module = usize::from(calls[CALL_BYTES * row + INPUT]);
         moved += 1;
-        if record.inputs[input_module][b] == 0 {
+        if record.inputs[input_module].has(b) {
             placed[SETTING_BYTES * row + CENTRAL] = b as u8;
-            record.inputs[input_module][a] = 0;
-            record.inputs[input_module][b] = 1;
+            record.inputs[input_module].exchange(a, b);
             return moved;
         }
         let back = row_at::<INPUT>(calls, placed, input_module, b);
@@ -682,10 +733,9 @@ fn exchange_chain(
         // The row `back` is on b and at the input module.
         output_module = usize::from(calls[CALL_BYTES * back + OUTPUT]);
         moved += 1;
-        if record.outputs[output_module][a] == 0 {
+        if record.outputs[output_module].has(a) {
             placed[SETTING_BYTES * back + CENTRAL] = a as u8;
-            record.outputs[output_module][b] = 0;
-            record.outputs[output_module][a] = 1;
+            record.outputs[output_module].exchange(a, b);
             return moved;
         }
         row = row_at::<OUTPUT>(calls, placed, output_module, a);
@@ -725,14 +775,14 @@ fn write_setting(cycle: usize, call: &[u8], setting: &mut [u8], central: usize) 
 
 // A single call.
 
-/// Which centrals are in use at the input module and at the output module of a new call.
+/// What is free at the input module and at the output module of a new call.
 struct Ends {
-    at_input: Use,
-    at_output: Use,
+    at_input: Free,
+    at_output: Free,
 }
 
-/// Refusals 5, 6, 7 and 8 of a new call, in one pass over the rows for all but 5; without one, the
-/// use of its modules. The rows have been accepted, so a module has as many calls as centrals in
+/// Refusals 5, 6, 7 and 8 of a new call, in one pass over the rows for all but 5; without one, what
+/// is free at its modules. The rows have been accepted, so a module has as many calls as centrals in
 /// use.
 fn check_new_call(
     net: Network,
@@ -747,13 +797,11 @@ fn check_new_call(
         return refuse(5, count);
     }
     let mut ends = Ends {
-        at_input: [0; Network::MOST_CENTRALS],
-        at_output: [0; Network::MOST_CENTRALS],
+        at_input: Free::all(net.m),
+        at_output: Free::all(net.m),
     };
     let mut inlet_is_used = false;
     let mut outlet_is_used = false;
-    let mut input_calls = 0;
-    let mut output_calls = 0;
     let rows = calls
         .chunks_exact(CALL_BYTES)
         .zip(settings.chunks_exact(SETTING_BYTES));
@@ -761,13 +809,11 @@ fn check_new_call(
         let central = usize::from(setting[CENTRAL]);
         if other[INPUT] == call[INPUT] {
             inlet_is_used |= other[INPUT + 1] == call[INPUT + 1];
-            input_calls += 1;
-            ends.at_input[central] = 1;
+            ends.at_input.take(central);
         }
         if other[OUTPUT] == call[OUTPUT] {
             outlet_is_used |= other[OUTPUT + 1] == call[OUTPUT + 1];
-            output_calls += 1;
-            ends.at_output[central] = 1;
+            ends.at_output.take(central);
         }
     }
     if inlet_is_used {
@@ -776,7 +822,7 @@ fn check_new_call(
     if outlet_is_used {
         return refuse(7, count);
     }
-    if input_calls >= net.m || output_calls >= net.m {
+    if ends.at_input.is_none() || ends.at_output.is_none() {
         return refuse(8, count);
     }
     Ok(ends)
@@ -795,12 +841,12 @@ fn place_one(
     let [settings_after, moved_rows] = rooms;
     append(settings_after, settings);
     let (placed, new_setting) = settings_after.split_at_mut(settings.len());
-    if let Some(central) = lowest_common(&ends.at_input, &ends.at_output, net.m) {
+    if let Some(central) = ends.at_input.in_common(ends.at_output).lowest() {
         write_setting(net.cycle(), call, new_setting, central);
         return 0;
     }
-    let a = lowest_free(&ends.at_input, net.m);
-    let b = lowest_free(&ends.at_output, net.m);
+    let a = lowest_free(ends.at_input);
+    let b = lowest_free(ends.at_output);
     write_setting(net.cycle(), call, new_setting, a);
     let start = usize::from(call[OUTPUT]);
     let chain = Chain::new(calls, settings, a, b);
@@ -864,5 +910,41 @@ impl Chain {
             }
         }
         moved
+    }
+}
+
+#[cfg(test)]
+mod tests {
+    use super::*;
+
+    /// Takes the lowest as long as there is one.
+    fn taken_in_turn(mut free: Free) -> Vec<usize> {
+        std::iter::from_fn(|| {
+            let lowest = free.lowest()?;
+            free.take(lowest);
+            Some(lowest)
+        })
+        .collect()
+    }
+
+    /// Also where the bits of all centrals fill the word.
+    #[test]
+    fn centrals_are_found_from_the_lowest_up_to_m() {
+        for m in 1..=Network::MOST_CENTRALS {
+            let centrals: Vec<usize> = (0..m).collect();
+            assert_eq!(taken_in_turn(Free::all(m)), centrals);
+        }
+    }
+
+    #[test]
+    fn the_two_centrals_of_a_chain_change_places() {
+        for a in 0..Network::MOST_CENTRALS {
+            for b in (0..Network::MOST_CENTRALS).filter(|&b| b != a) {
+                let mut free = Free::all(Network::MOST_CENTRALS);
+                free.take(a);
+                free.exchange(a, b);
+                assert!(free.has(a) && !free.has(b));
+            }
+        }
     }
 }

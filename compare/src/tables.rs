@@ -1,10 +1,12 @@
-//! The tables on which implementations are timed, and the calls that are timed on each.
+//! The tables on which implementations are timed, and the calls that are timed on each. And the full
+//! tables in drawn order on which planners alone are timed.
 
 use crate::inputs::{call_of, file_of, settings_length, spread_calls, Random, Running};
 use crate::ladders::{
     calls_of_pairs, ladder, largest_ladder, largest_thread, thread_pair, LARGEST_SPARE,
     LARGEST_TIGHT, LONGEST_THREAD,
 };
+use crate::plain::chain_lengths;
 use crate::swift::Swift;
 use crate::{Entries, Kind, Network, Planned, Verdict, CALL_BYTES, MOVED_BYTES, SETTING_BYTES};
 
@@ -27,8 +29,11 @@ pub struct Table {
 
 const NOTE: [u8; 16] = *b"benchmark's note";
 
-/// More centrals than a module has channels.
+/// Twice as many centrals as a module has channels.
 const SPREAD: Network = Network::of_sizes(16, 32, 64);
+
+/// Some more centrals than a module has channels, so that a full table hardly ever needs a chain.
+const ROOMY: Network = Network::of_sizes(16, 20, 64);
 
 const NARROW: Network = Network::of_sizes(2, 2, 64);
 
@@ -76,18 +81,29 @@ impl Table {
     pub fn count(&self) -> usize {
         self.calls.len() / CALL_BYTES
     }
+
+    /// How many calls are on the longest chain of the plan: 0 where there is no chain.
+    pub fn longest_chain(&self) -> usize {
+        let lengths = chain_lengths(self.net, &self.calls);
+        lengths.into_iter().max().unwrap_or(0)
+    }
 }
 
-/// The tables: a full one in a drawn order; a ladder, whose chains grow; a full one that ends in a
-/// ladder; one that needs no chain, and the first half of it; and one whose last call, added to
-/// settings of another maker, needs the longest chain.
-pub fn tables() -> [Table; 6] {
+/// The tables: a full one in a drawn order; a ladder, whose chains grow up to the longest that there
+/// can be, `LONGEST_THREAD`; a full one that ends in this ladder; one that needs no chain, and the
+/// first half of it; one whose last call, added to settings of another maker, needs the longest chain;
+/// and two more full ones in a drawn order, with more centrals.
+pub fn tables() -> [Table; 8] {
     let spread = spread_calls(&mut Random::seeded(3), SPREAD, 1024);
     let half = spread[..CALL_BYTES * 512].to_vec();
     let pair = thread_pair(LONGEST_THREAD);
     let (threaded, last) = Running::with_new_pair(LARGEST_SPARE, &largest_thread(), pair);
     [
-        Table::new("random full 16-16-64", LARGEST_TIGHT, full_calls(1)),
+        Table::new(
+            "random full 16-16-64",
+            LARGEST_TIGHT,
+            full_calls(LARGEST_TIGHT, 1),
+        ),
         Table::new("ladder 2-2-64", NARROW, calls_of_pairs(&ladder(64))),
         Table::new(
             "rounds and ladder 16-16-64",
@@ -97,26 +113,44 @@ pub fn tables() -> [Table; 6] {
         Table::new("spread 16-32-64", SPREAD, spread),
         Table::new("half of spread 16-32-64", SPREAD, half),
         Table::after("longest thread 16-17-64", threaded, &last),
+        Table::new("random full 16-20-64", ROOMY, full_calls(ROOMY, 4)),
+        Table::new("random full 16-32-64", SPREAD, full_calls(SPREAD, 5)),
     ]
 }
 
 /// The first rows of a full table, so many as are asked for.
 pub fn growing(count: usize) -> Table {
-    let mut calls = full_calls(2);
+    let mut calls = full_calls(LARGEST_TIGHT, 2);
     calls.truncate(CALL_BYTES * count);
     Table::new("first rows of a random full 16-16-64", LARGEST_TIGHT, calls)
 }
 
 /// Every channel of every module in use, in a drawn order.
-fn full_calls(seed: u64) -> Vec<u8> {
+fn full_calls(net: Network, seed: u64) -> Vec<u8> {
     let mut random = Random::seeded(seed);
-    let outlets = random.order(1024);
-    let inlets = random.order(1024);
+    let outlets = random.order(net.n * net.r);
+    let inlets = random.order(net.n * net.r);
     inlets
         .iter()
         .zip(&outlets)
-        .flat_map(|(&inlet, &outlet)| call_of(LARGEST_TIGHT, inlet, outlet))
+        .flat_map(|(&inlet, &outlet)| call_of(net, inlet, outlet))
         .collect()
+}
+
+/// Networks whose full tables need many chains, fewer, hardly any and none, and smaller ones.
+pub const OF_FULL_TABLES: [Network; 7] = [
+    LARGEST_TIGHT,
+    LARGEST_SPARE,
+    ROOMY,
+    SPREAD,
+    Network::of_sizes(16, 16, 16),
+    Network::of_sizes(4, 4, 64),
+    NARROW,
+];
+
+/// Forty call tables with every channel of every module in use, each in a drawn order.
+pub fn full_tables(net: Network) -> Vec<Vec<u8>> {
+    (101..=140).map(|seed| full_calls(net, seed)).collect()
 }
 
 /// Bytes of the rooms of the largest add, one after the other, which are more than the longest file.
@@ -125,6 +159,12 @@ pub const LARGEST_ROOM: usize =
 
 /// A call that is timed: its name, and the call. The room that it needs is made before.
 pub type Timed = (&'static str, fn(&dyn Entries, &Table, &mut [u8]) -> usize);
+
+/// The place of the planner among the calls that are timed.
+pub const PLAN: usize = 0;
+
+/// The place of an add among them.
+pub const ADD: usize = 6;
 
 /// The calls that are timed. Each answers the number that it was given, and none is refused.
 pub const TIMED: [Timed; 15] = [
@@ -223,8 +263,42 @@ mod tests {
             (1024, 0),
             (512, 0),
             (1024, 125),
+            (1024, 0),
+            (1024, 0),
         ];
         assert_eq!(moved, owed);
+    }
+
+    /// The longest chain that there can be is among those of a plan and among those of an add.
+    #[test]
+    fn the_longest_chains_are_as_long_as_can_be() {
+        let lengths = tables().map(|table| table.longest_chain());
+        assert_eq!(
+            lengths,
+            [106, LONGEST_THREAD, LONGEST_THREAD, 0, 0, 0, 0, 0]
+        );
+        assert_eq!(tables()[5].moved_by_last, LONGEST_THREAD);
+        assert_eq!(LONGEST_THREAD, 125);
+    }
+
+    #[test]
+    fn calls_stand_in_their_places() {
+        assert_eq!(TIMED[PLAN].0, "plan");
+        assert_eq!(TIMED[ADD].0, "add the last call");
+    }
+
+    /// Forty different tables, none of which is refused.
+    #[test]
+    fn full_tables_can_be_planned() {
+        for net in OF_FULL_TABLES {
+            let tables = full_tables(net);
+            assert_eq!(tables.len(), 40);
+            for (place, calls) in tables.iter().enumerate() {
+                let answer = Swift.plan(net, calls, &mut [0; LARGEST_ROOM]);
+                assert_eq!((answer.number, answer.row), (0, net.n * net.r));
+                assert!(!tables[..place].contains(calls));
+            }
+        }
     }
 
     #[test]

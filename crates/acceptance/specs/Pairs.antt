@@ -9,18 +9,19 @@
 use mathlib.Core.Path.{_≡_, sym, ap, _∙_}
 use mathlib.Core.Bool.{Bool, true, false}
 use mathlib.Core.List.{List}
-use Prim.Native.Nat.{ℕ, suc, _+_, _*_, _<_}
+use Prim.Native.Nat.{ℕ, suc, _+_, _<_}
 use native.Mathlib.Omega.{arith}
 use lib.Dec.{T}
 use Rattle.ground.specs.Numbers.{up-to}
 use Rattle.ground.specs.Below.{usedEarlier}
-use Rattle.ground.specs.Marks.{slot, marks, Marked}
-use Rattle.ground.specs.MarksLaws.{slot-room, mark-tells}
+use Rattle.ground.specs.Words.{wordSize}
+use Rattle.ground.specs.Marks.{marks, Marked}
+use Rattle.ground.specs.MarksLaws.{mark-tells}
 use Rattle.shelf.specs.declared.Network.{Network}
 use Rattle.shelf.specs.declared.CallRow.{CallRow}
 use Rattle.shelf.specs.declared.SettingsRow.{SettingsRow}
 use Rattle.shelf.specs.Network.{withinLimits, mostModules, mostCentrals}
-use Rattle.shelf.specs.NetworkLaws.{limits-are, own-central-below}
+use Rattle.shelf.specs.NetworkLaws.{limits-are, own-central-below, central-bit}
 use Rattle.shelf.specs.Rows.{rowCount, α, β, γ, moduleOf, CallRead, SettingsRead}
 use Rattle.shelf.specs.Light.{rowOf, rowAt}
 use Rattle.shelf.specs.Arrival.{Ports}
@@ -37,7 +38,7 @@ moduleIn call true = call .«output_module»
 moduleIn call false = call .«input_module»
 
 abbrev pub pairMarks : List ℕ → List ℕ → Bool → ℕ → List ℕ
-pairMarks calls settings output = marks mostModules mostCentrals (moduleOf calls output) (γ settings)
+pairMarks calls settings output = marks mostModules (moduleOf calls output) (γ settings)
 
 -- the centrals of rows whose light arrives are small
 small-central : (net : Network) (calls settings : List ℕ) (i : ℕ) → T (withinLimits net) → Ports net (rowAt calls settings i) → γ settings i < mostCentrals
@@ -83,17 +84,17 @@ module _ {net : Network} {calls settings : List ℕ} {i : ℕ} {call : CallRow} 
     small-module true = let l = limits-are net .0 (j .limits) in omega (arith, j .inside .own-β)
     small-module false = let l = limits-are net .0 (j .limits) in omega (arith, j .inside .own-α)
 
-    pair-slot : (output : Bool) → moduleIn call output * mostCentrals + set .central ≡ slot mostCentrals (moduleOf calls output) (γ settings) i
-    unfolding slot
-    pair-slot true = rw (j .call-read .output-module, j .settings-read .central)
-    pair-slot false = rw (j .call-read .input-module, j .settings-read .central)
+    own-module : (output : Bool) → moduleIn call output ≡ moduleOf calls output i
+    own-module true = j .call-read .output-module
+    own-module false = j .call-read .input-module
 
-    pub pair-room : (output : Bool) → moduleIn call output * mostCentrals + set .central < mostModules * mostCentrals
-    pair-room output = slot-room _ _ _ _ _ (pair-slot output) (small-module output) small-here
+    pub pair-room : (output : Bool) → (moduleIn call output < mostModules) × (set .central < wordSize)
+    pair-room output = (rw (own-module output) (small-module output), rw (j .settings-read .central) (central-bit small-here))
 
-    pub pair-tells : (output : Bool) {used used′ : List ℕ} {before : Bool} → used ≡ pairMarks calls settings output i → Marked used used′ (moduleIn call output * mostCentrals + set .central) before
+    pub pair-tells : (output : Bool) {used used′ : List ℕ} {before : Bool} → used ≡ pairMarks calls settings output i → Marked used used′ (moduleIn call output) (set .central) before
         → (before ≡ usedEarlier (moduleOf calls output) (γ settings) i) × (used′ ≡ pairMarks calls settings output (i + 1))
-    pair-tells output u m = mark-tells mostModules mostCentrals (moduleOf calls output) (γ settings) i u (pair-slot output) m (small-module output) small-so-far
+    pair-tells output u m =
+        mark-tells mostModules (moduleOf calls output) (γ settings) i u (own-module output) (j .settings-read .central) m (small-module output) (λ q l. central-bit (small-so-far q l))
 
     -- what the pairs tell
     module _ {input : Bool} (a : input ≡ usedEarlier (α calls) (γ settings) i) where

@@ -14,9 +14,6 @@ use shelf::CallRow;
 use shelf::Network;
 use shelf::SettingsRow;
 
-// A mark for each module and central of the largest network.
-const PAIRS: usize = Network::MOST_MODULES * Network::MOST_CENTRALS;
-
 // Whether the settings are lawful for the calls: 0 and K, or the first refusal in the order 1, 2, 3, 5, 6, 7, then row by
 // row 9 to 13. Nothing is asked of the input.
 pub fn accept(net: Network, calls: &[u8], settings: &[u8]) -> Verdict
@@ -48,14 +45,15 @@ pub fn check_rows(net: Network, calls: &[u8], settings: &[u8]) -> Verdict
     seek_unlawful(net, calls, settings)
 }
 
-// The first row that 9 to 13 refuse, by records of the pairs (input module, central) and (output module, central) in use.
+// The first row that 9 to 13 refuse, by records of the pairs (input module, central) and (output module, central) in use: a word for
+// each module, with a bit for each central.
 fn seek_unlawful(net: Network, calls: &[u8], settings: &[u8]) -> Verdict
     requires { ⌜ T (withinLimits net) × (length (now settings) ≡ 3 * rowCount (now calls)) × ((i : ℕ) → i < rowCount (now calls) → Inside net (now calls) i) ⌝ }
     ensures { λ v. ⌜ v ≡ unlawfulRow net (now (calls .entry)) (now (settings .entry)) ⌝ }
 {
     let count = calls.len() / 4;
-    let mut inputs = [0u8; PAIRS];
-    let mut outputs = [0u8; PAIRS];
+    let mut inputs = [0u32; Network::MOST_MODULES];
+    let mut outputs = [0u32; Network::MOST_MODULES];
     let mut row = 0;
     while row < count {
         let call = CallRow::at(calls, row);
@@ -64,16 +62,10 @@ fn seek_unlawful(net: Network, calls: &[u8], settings: &[u8]) -> Verdict
         if light.number != 0 {
             return light;
         }
-        if ground::mark(
-            &mut inputs,
-            call.input_module * Network::MOST_CENTRALS + set.central,
-        ) {
+        if ground::mark(&mut inputs, call.input_module, set.central) {
             return Verdict { number: 12, row };
         }
-        if ground::mark(
-            &mut outputs,
-            call.output_module * Network::MOST_CENTRALS + set.central,
-        ) {
+        if ground::mark(&mut outputs, call.output_module, set.central) {
             return Verdict { number: 13, row };
         }
         row += 1;

@@ -4,11 +4,11 @@
 --   module-before, channel-before, module-new, channel-new == the modules and channels of its rows, on each side
 --   call-new            == the new row, as it is read from the new call alone
 --   order-more          == it is in order where the calls are, and 3, 5, 6 and 7 pass of the new row
---   point-new           == what the slots of the calls tell of the inlet, or the outlet, of the new row
+--   point-new           == what the points of the calls tell of the inlet, or the outlet, of the new row
 --   overfull-side, overfull-none == what the counts of calls at its modules tell
 use mathlib.Core.Path.{_≡_, sym, ap, _∙_}
 use mathlib.Core.Logic.{_↔_}
-use mathlib.Core.Bool.{Bool, true, false, not}
+use mathlib.Core.Bool.{Bool, true, false, not, _&&_}
 use mathlib.Core.List.{List, _++_}
 use Prim.Native.Nat.{ℕ, suc, _+_, _*_, _≤_, _<_}
 use native.Mathlib.Omega.{arith}
@@ -17,24 +17,21 @@ use lib.ListN.{length, getD, length-append, List·getD-append}
 use lib.Seq.{getD-append-add}
 use Rattle.ground.specs.TruthLaws.{test-fails, test-holds}
 use Rattle.ground.specs.Numbers.{up-to}
-use Rattle.ground.specs.Below.{someBelow, Once}
+use Rattle.ground.specs.Below.{someBelow, usedEarlier, Once}
 use Rattle.ground.specs.BelowLaws.{some-same, once-more, once-same}
-use Rattle.ground.specs.Marks.{slot}
-use Rattle.ground.specs.MarksLaws.{used-by-slot}
 use Rattle.shelf.specs.declared.Network.{Network}
 use Rattle.shelf.specs.declared.CallRow.{CallRow}
-use Rattle.shelf.specs.Network.{mostCalls, mostChannels, mostModules}
-use Rattle.shelf.specs.NetworkLaws.{limits-are}
+use Rattle.shelf.specs.Network.{mostCalls}
 use Rattle.shelf.specs.Rows.{rowCount, α, ω, β, ω', moduleOf, channelOf, CallRead}
 use Rattle.shelf.specs.Order.{order}
-use Rattle.calls.specs.Table.{outside, outsideCall, pointUsed, pointSlot, Inside, InOrder}
-use Rattle.calls.specs.TableLaws.{outside-read, inside-is}
+use Rattle.calls.specs.declared.Point.{Point}
+use Rattle.calls.specs.Table.{outside, outsideCall, pointUsed, PointRead, Inside, InOrder}
+use Rattle.calls.specs.TableLaws.{outside-read}
 use Rattle.choice.specs.Colouring.{atModule, Fits}
 use Rattle.choice.specs.Count.{count-here}
 use Rattle.choice.specs.Agree.{Agree, count-agree}
 use Rattle.planner.specs.Planner.{overfull}
 use Rattle.planner.specs.Overfull.{fits-is}
-use Rattle.adding.specs.Steps.{NewRow}
 
 module _ (calls call : List ℕ) (whole : length calls ≡ 4 * rowCount calls) where
   abbrev K : ℕ
@@ -110,19 +107,12 @@ module _ (calls call : List ℕ) (whole : length calls ≡ 4 * rowCount calls) w
   count-new : (output : Bool) → length (atModule (moduleOf table output) (suc K) (moduleOf table output K)) ≡ suc (length (atModule (moduleOf calls output) K (moduleOf call output 0)))
   count-new output = count-here (moduleOf table output) K ∙ ap suc (count-before output (moduleOf table output K) ∙ rw (module-new output))
 
-  slot-before : (outlets : Bool) (j : ℕ) → j < K → pointSlot calls outlets j ≡ pointSlot table outlets j
-  unfolding slot
-  slot-before outlets j l = λ t. sym (module-before outlets j l) t * mostChannels + sym (channel-before outlets j l) t
-
-  slot-new : (outlets : Bool) → pointSlot call outlets 0 ≡ pointSlot table outlets K
-  unfolding slot
-  slot-new outlets = λ t. sym (module-new outlets) t * mostChannels + sym (channel-new outlets) t
-
-  point-used : (outlets : Bool) → ((j : ℕ) → j < suc K → channelOf table outlets j < mostChannels)
-      → someBelow K (λ j. eqb (pointSlot calls outlets j) (pointSlot call outlets 0)) ≡ pointUsed table outlets K
-  point-used outlets narrow =
-      some-same K _ _ (λ j l t. eqb (slot-before outlets j l t) (slot-new outlets t))
-      ∙ used-by-slot mostModules mostChannels (moduleOf table outlets) (channelOf table outlets) K narrow
+  pub point-new : (outlets : Bool) {point : Point} {used : Bool} → PointRead call outlets 0 point
+      → used ≡ someBelow K (λ j. eqb (moduleOf calls outlets j) (point .«module») && eqb (channelOf calls outlets j) (point .channel)) → used ≡ pointUsed table outlets K
+  unfolding usedEarlier
+  point-new outlets p u =
+      u ∙ some-same K _ _ (λ j l t.
+      eqb (sym (module-before outlets j l) t) ((p .module-is ∙ sym (module-new outlets)) t) && eqb (sym (channel-before outlets j l) t) ((p .channel-is ∙ sym (channel-new outlets)) t))
 
   module _ (one : length call ≡ 4) where
     pub count-appended : rowCount table ≡ suc K
@@ -169,18 +159,3 @@ module _ (calls call : List ℕ) (whole : length calls ≡ 4 * rowCount calls) w
 
     pub overfull-none : ((output : Bool) → length (atModule (moduleOf calls output) K (moduleOf call output 0)) < length (order net)) → overfull net table K ≡ false
     overfull-none h = test-fails (overfull net table K) (fits-is net table K .1 (omega (arith, h false, count-new false), omega (arith, h true, count-new true)))
-
--- the inlet, or the outlet, of a new row whose numbers the shelf has
-module _ {net : Network} {calls call : List ℕ} (h : NewRow net calls call) (own : outside net (calls ++ call) (rowCount calls) ≡ false) where
-  narrow : (outlets : Bool) (j : ℕ) → j < suc (rowCount calls) → channelOf (calls ++ call) outlets j < mostChannels
-  narrow outlets = up-to (λ j. channelOf (calls ++ call) outlets j < mostChannels)
-      (λ j l. rw (channel-before calls call (h .whole) outlets j l) (small outlets j (h .inside j l)))
-      (small outlets (rowCount calls) (inside-is net (calls ++ call) (rowCount calls) .0 (rw own tt)))
-    where
-      small : {table : List ℕ} (outlets : Bool) (j : ℕ) → Inside net table j → channelOf table outlets j < mostChannels
-      small true j i = omega (arith, i .own-ω', limits-are net .0 (h .limits) .most-n)
-      small false j i = omega (arith, i .own-ω, limits-are net .0 (h .limits) .most-n)
-
-  pub point-new : (outlets : Bool) {point : ℕ} {used : Bool} → point ≡ pointSlot call outlets 0
-      → used ≡ someBelow (rowCount calls) (λ j. eqb (pointSlot calls outlets j) point) → used ≡ pointUsed (calls ++ call) outlets (rowCount calls)
-  point-new outlets e u = u ∙ ap (λ (p : ℕ). someBelow (rowCount calls) (λ j. eqb (pointSlot calls outlets j) p)) e ∙ point-used calls call (h .whole) outlets (narrow outlets)

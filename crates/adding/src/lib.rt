@@ -1,18 +1,19 @@
 // Adding one call to a running shelf: from any lawful settings, whoever made them, one step of the choice rule places the call, and
 // the rows that had to move are told. Nothing is planned anew.
 ghost use mathlib.Core.Path.{_≡_};
+ghost use mathlib.Core.Bool.{_&&_};
 ghost use mathlib.Core.List.{[], _∷_, _++_};
 ghost use Prim.Native.Nat.{_+_, _*_, _≤_};
 ghost use lib.Dec.{eqb};
 ghost use lib.ListN.{length};
 ghost use Rattle.ground.specs.Bytes.{front, Adds};
 ghost use Rattle.ground.specs.Below.{someBelow};
-ghost use Rattle.shelf.specs.Rows.{rowCount, moduleOf};
+ghost use Rattle.shelf.specs.Rows.{rowCount, moduleOf, channelOf};
 ghost use Rattle.calls.specs.Verdict.{inTurn};
-ghost use Rattle.calls.specs.Table.{pointSlot};
 ghost use Rattle.choice.specs.Colouring.{atModule};
 ghost use Rattle.adding.specs.Adding.{rowBytes, addChecks, newRowChecks, AddsCall};
 ghost use Rattle.adding.specs.Steps.{NewRow, Entered, Addable, SettingsAdded, Tellable, rowsTold};
+use calls::Point;
 use calls::Verdict;
 use planner::Planned;
 use shelf::CallRow;
@@ -127,15 +128,18 @@ fn check_new_row(net: Network, calls: &[u8], call: &[u8]) -> Verdict
     Verdict { number: 0, row: 0 }
 }
 
-// Whether one of the calls has this inlet, or with `outlets` this outlet, by its slot in a record of use.
-fn has_point(calls: &[u8], point: usize, outlets: bool) -> bool
-    ensures { λ b. ⌜ b ≡ someBelow (rowCount (now (calls .entry))) (λ j. eqb (pointSlot (now (calls .entry)) outlets j) point) ⌝ }
+// Whether one of the calls has this inlet, or with `outlets` this outlet.
+fn has_point(calls: &[u8], point: Point, outlets: bool) -> bool
+    ensures { λ b. ⌜ b ≡ someBelow (rowCount (now (calls .entry))) (λ j. eqb (moduleOf (now (calls .entry)) outlets j) (point .«module») && eqb (channelOf (now (calls .entry)) outlets j) (point .channel)) ⌝ }
 {
     let count = calls.len() / 4;
     let mut row = 0;
     while row < count {
-        if calls::point_at(calls, row, outlets) == point {
-            return true;
+        let other = calls::point_at(calls, row, outlets);
+        if other.module == point.module {
+            if other.channel == point.channel {
+                return true;
+            }
         }
         row += 1;
     }
@@ -194,7 +198,7 @@ fn place_and_write(
     let row = settings.len() / 3;
     ground::write_bytes(rows, 0, settings);
     enter_calls(table, rows);
-    let mut used = [0u8; choice::RECORD];
+    let mut used = [0u32; choice::RECORD];
     choice::record_rows(&mut used, rows, row);
     let mut chain = [0u16; choice::CHAIN];
     let moved = planner::place_rest(net, table, rows, row, &mut used, &mut chain);

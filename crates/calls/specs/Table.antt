@@ -11,8 +11,8 @@
 --   Inside net calls i   == 5 does not refuse row i
 --   InOrder net calls    == a call table in order: none of these refuses it
 --   pointUsed calls outlets i == an earlier row uses the inlet, or with `outlets` the outlet, of row i
---   pointSlot, pointMarks, PointFits calls outlets i == its place in a record of use, that record after the rows below i, and that
---                           it has such a place
+--   PointRead calls outlets i point == `point` is the inlet, or the outlet, of row i
+--   pointMarks, PointFits calls outlets i == the record of use after the rows below i, and that the point of row i has a place in it
 use mathlib.Core.Path.{_≡_}
 use mathlib.Core.Bool.{Bool, true, false, not}
 use mathlib.Core.List.{List, [], _∷_}
@@ -21,12 +21,13 @@ use lib.Dec.{T, eqb, leb, ltb}
 use lib.ListN.{length}
 use Rattle.ground.specs.Truth.{any}
 use Rattle.ground.specs.Below.{usedEarlier, Once}
-use Rattle.ground.specs.Marks.{slot, marks}
+use Rattle.ground.specs.Marks.{marks}
 use Rattle.shelf.specs.declared.Network.{Network}
 use Rattle.shelf.specs.declared.CallRow.{CallRow}
 use Rattle.shelf.specs.Network.{withinLimits, mostChannels, mostModules, mostCalls}
 use Rattle.shelf.specs.Rows.{rowCount, α, ω, β, ω', callAt, moduleOf, channelOf}
 use Rattle.calls.specs.declared.Verdict.{Verdict}
+use Rattle.calls.specs.declared.Point.{Point}
 use Rattle.calls.specs.Verdict.{refusedIf, inTurn, seekRows}
 
 unfoldable pub badSizes : Network → Verdict
@@ -92,11 +93,12 @@ pub record InOrder (net : Network) (calls : List ℕ) : Type 0 where
   pub inlets : Once (α calls) (ω calls) (rowCount calls)
   pub outlets : Once (β calls) (ω' calls) (rowCount calls)
 
-abbrev pub pointSlot : List ℕ → Bool → ℕ → ℕ
-pointSlot calls outlets = slot mostChannels (moduleOf calls outlets) (channelOf calls outlets)
+pub record PointRead (calls : List ℕ) (outlets : Bool) (i : ℕ) (point : Point) : Type 0 where
+  pub module-is : point .«module» ≡ moduleOf calls outlets i
+  pub channel-is : point .channel ≡ channelOf calls outlets i
 
 abbrev pub pointMarks : List ℕ → Bool → ℕ → List ℕ
-pointMarks calls outlets = marks mostModules mostChannels (moduleOf calls outlets) (channelOf calls outlets)
+pointMarks calls outlets = marks mostModules (moduleOf calls outlets) (channelOf calls outlets)
 
 pub record PointFits (calls : List ℕ) (outlets : Bool) (i : ℕ) : Type 0 where
   pub own-module : moduleOf calls outlets i < mostModules

@@ -25,12 +25,13 @@ use Rattle.ground.specs.Marks.{Marked}
 use Rattle.ground.specs.MarksLaws.{mark-tells}
 use Rattle.shelf.specs.declared.Network.{Network}
 use Rattle.shelf.specs.declared.CallRow.{CallRow}
-use Rattle.shelf.specs.Network.{withinLimits, mostChannels, mostModules, mostCalls}
-use Rattle.shelf.specs.NetworkLaws.{limits-are}
+use Rattle.shelf.specs.Network.{withinLimits, mostModules, mostCalls}
+use Rattle.shelf.specs.NetworkLaws.{limits-are, channel-bit}
 use Rattle.shelf.specs.Rows.{rowCount, α, ω, β, ω', moduleOf, channelOf, ModulesBelow, CallRead}
+use Rattle.calls.specs.declared.Point.{Point}
 use Rattle.calls.specs.Verdict.{refusedIf, seekRows}
 use Rattle.calls.specs.VerdictLaws.{turn-passes, turn-number, test-number, seek-number, refused-zero, seek-passes}
-use Rattle.calls.specs.Table.{badSizes, badLengths, tooManyCalls, outside, outsideCall, outsideRow, pointTwice, sizeChecks, callChecks, Inside, InOrder, pointUsed, pointSlot, pointMarks, PointFits}
+use Rattle.calls.specs.Table.{badSizes, badLengths, tooManyCalls, outside, outsideCall, outsideRow, pointTwice, sizeChecks, callChecks, Inside, InOrder, pointUsed, PointRead, pointMarks, PointFits}
 
 pub sizes-pass : (net : Network) → (badSizes net .number ≡ 0) ↔ T (withinLimits net)
 unfolding badSizes
@@ -106,11 +107,11 @@ inside-points net calls false h e i l =
     let s = outside-passes net calls .0 e i l in
     record { own-module = omega arith; own-channel = omega arith }
 
-pub point-tells : (calls : List ℕ) (outlets : Bool) (i : ℕ) {used used′ : List ℕ} {v : ℕ} {before : Bool} → ((j : ℕ) → j < rowCount calls → PointFits calls outlets j)
-    → i < rowCount calls → used ≡ pointMarks calls outlets i → v ≡ pointSlot calls outlets i → Marked used used′ v before
+pub point-tells : (calls : List ℕ) (outlets : Bool) (i : ℕ) {used used′ : List ℕ} {point : Point} {before : Bool} → ((j : ℕ) → j < rowCount calls → PointFits calls outlets j)
+    → i < rowCount calls → used ≡ pointMarks calls outlets i → PointRead calls outlets i point → Marked used used′ (point .«module») (point .channel) before
     → (before ≡ pointUsed calls outlets i) × (used′ ≡ pointMarks calls outlets (i + 1))
-point-tells calls outlets i fits l e q m =
-    mark-tells mostModules mostChannels (moduleOf calls outlets) (channelOf calls outlets) i e q m (fits i l .own-module) (λ j k. fits j (omega arith) .own-channel)
+point-tells calls outlets i fits l e p m =
+    mark-tells mostModules (moduleOf calls outlets) (channelOf calls outlets) i e (p .module-is) (p .channel-is) m (fits i l .own-module) (λ j k. channel-bit (fits j (omega arith) .own-channel))
 
 pub size-checks-pass : (net : Network) (calls : List ℕ) (s per : ℕ) → (sizeChecks net (length calls) s per .number ≡ 0)
     ↔ (T (withinLimits net) × (length calls ≡ 4 * rowCount calls) × (s ≡ per * rowCount calls) × (rowCount calls ≤ mostCalls))

@@ -6,7 +6,7 @@ ghost use lib.Dec.{T};
 ghost use lib.ListN.{length};
 ghost use Rattle.shelf.specs.Network.{withinLimits};
 ghost use Rattle.shelf.specs.Rows.{rowCount};
-ghost use Rattle.calls.specs.Table.{sizeChecks, callChecks, outsideCall, outsideRow, pointTwice, pointSlot, PointFits};
+ghost use Rattle.calls.specs.Table.{sizeChecks, callChecks, outsideCall, outsideRow, pointTwice, PointRead, PointFits};
 use shelf::CallRow;
 use shelf::Network;
 
@@ -17,8 +17,11 @@ pub struct Verdict {
     pub row: usize,
 }
 
-// A mark for each inlet, or each outlet, of the largest network.
-const POINTS: usize = Network::MOST_MODULES * Network::MOST_CHANNELS;
+// An inlet or an outlet: a module and one of its channels.
+pub struct Point {
+    pub module: usize,
+    pub channel: usize,
+}
 
 // Refusals 1, 2 and 3, for calls and settings of these lengths in bytes. Settings have `settings_per_call` bytes for each
 // call, 0 where none are to be given.
@@ -100,10 +103,11 @@ fn seek_repeat(calls: &[u8], outlets: bool, number: usize) -> Verdict
     ensures { λ v. ⌜ v ≡ pointTwice (now (calls .entry)) outlets number ⌝ }
 {
     let count = calls.len() / 4;
-    let mut used = [0u8; POINTS];
+    let mut used = [0u32; Network::MOST_MODULES];
     let mut row = 0;
     while row < count {
-        if ground::mark(&mut used, point_at(calls, row, outlets)) {
+        let point = point_at(calls, row, outlets);
+        if ground::mark(&mut used, point.module, point.channel) {
             return Verdict { number, row };
         }
         row += 1;
@@ -111,15 +115,21 @@ fn seek_repeat(calls: &[u8], outlets: bool, number: usize) -> Verdict
     Verdict { number: 0, row: 0 }
 }
 
-// The slot of the row's inlet, or of its outlet, in a record of use.
-pub fn point_at(calls: &[u8], row: usize, outlets: bool) -> usize
+// The inlet of a row, or its outlet.
+pub fn point_at(calls: &[u8], row: usize, outlets: bool) -> Point
     requires { ⌜ 4 * row + 4 ≤ length (now calls) ⌝ }
-    ensures { λ point. ⌜ point ≡ pointSlot (now (calls .entry)) outlets row ⌝ }
+    ensures { λ point. ⌜ PointRead (now (calls .entry)) outlets row point ⌝ }
 {
     let call = CallRow::at(calls, row);
     if outlets {
-        call.output_module * Network::MOST_CHANNELS + call.output_channel
+        Point {
+            module: call.output_module,
+            channel: call.output_channel,
+        }
     } else {
-        call.input_module * Network::MOST_CHANNELS + call.input_channel
+        Point {
+            module: call.input_module,
+            channel: call.input_channel,
+        }
     }
 }

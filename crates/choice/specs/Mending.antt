@@ -1,40 +1,42 @@
--- The two chain steps do what the choice rule says. A chain step stores before it goes on, so that it meets the rows as the
--- steps before it left them; that it finds the rows of the rule's chain all the same is shown here, once for both sides.
---   search-miss, search-hit, search-end == a search by rising rows
---   mends-chain         == from the new call, which has taken a, the steps change the rows of the rule's chain, and leave what it leaves
---   Stepping            == a chain step has found the call beside
+-- The two chain steps do what the choice rule says. A chain step changes its row before it goes on, so that the next one meets the rows
+-- as the steps before it left them; that it finds the rows of the rule's chain all the same is shown here, once for both sides.
+--   search-miss, search-hit == a search by rising rows
+--   mends-chain         == from the new call, which stands on b and takes a, the steps change the rows of the rule's chain, and leave what it leaves
+--   Stepping            == a chain step has searched for the call that stands on its central
 --   mended-end, mended-on, mendable-on == the cases of a chain step, for its code
 --   told-row            == the row of the chain that stands at a place
---   beside-hit, beside-miss, beside-end == a search for the row beside, by rising rows
---   some-left, change-room == what a chain step that has found a call knows
+--   on-hit, on-miss, on-end == a search for the call on a central, by rising rows
+--   some-left, tell-room == what a chain step that has found a call knows
 --   same-mends, not-twice, telling-length == small laws for the proofs above
 use mathlib.Core.Path.{_≡_, refl, sym, ap, _∙_}
-use mathlib.Core.Logic.{_⊎_, inl, inr, ⊎-elim, _↔_}
-use mathlib.Core.Bool.{Bool, true, false, not, _&&_}
+use mathlib.Core.Logic.{_⊎_, inl, inr, ⊎-elim}
+use mathlib.Core.Bool.{Bool, true, false, not}
 use mathlib.Core.Option.{Option, none, some}
 use mathlib.Core.List.{List, [], _∷_, _++_}
 use Prim.Native.Nat.{ℕ, zero, suc, _+_, _*_, _-_, _/_, _≤_, _<_}
 use native.Mathlib.Numerals.{add-one}
 use native.Mathlib.Decide.{ℕ-discrete, le-ind}
 use native.Mathlib.Omega.{arith}
-use lib.Dec.{T, eqb}
+use lib.Dec.{eqb}
 use lib.ListN.{length, getD, set, length-set, length-append}
 use lib.Seq.{getD-set-same, getD-set-other, ext-getD}
-use borrow.Author.Tests.{eq-eqb, ne-eqb, eqb-true}
-use Rattle.ground.specs.TruthLaws.{both-is, not-is, same-test}
-use Rattle.ground.specs.Numbers.{below-suc, eqb-is}
+use borrow.Author.Tests.{eqb-true}
+use Rattle.ground.specs.TruthLaws.{same-test}
+use Rattle.ground.specs.Numbers.{below-suc}
 use Rattle.ground.specs.Lists.{In, here, there, Distinct}
 use Rattle.ground.specs.ListsLaws.{not-in-nil}
 use Rattle.shelf.specs.Network.{mostCalls}
-use Rattle.choice.specs.Rule.{at, firstBelow, stands, exchange, exchanged}
+use Rattle.choice.specs.Rule.{at, firstBelow, rowOn, exchange, exchanged}
 use Rattle.choice.specs.Colouring.{Free}
 use Rattle.choice.specs.Rows.{moduleIn, centralsOf}
-use Rattle.choice.specs.Placement.{chainPlaces, rowBeside, besideOf, Mends, stop, next, MendsIn, telling, Mendable, Mended}
-use Rattle.choice.specs.Search.{Found, hit, miss, found}
+use Rattle.choice.specs.Record.{told}
+use Rattle.choice.specs.Placement.{chainPlaces, Mends, stop, next, MendsIn, telling, Mendable, Mended}
+use Rattle.choice.specs.Search.{Standing, row, free, standing, stands-iff}
 use Rattle.choice.specs.Chain.{Setting, turn, Runs, stop as at-end, next as goes-on}
 use Rattle.choice.specs.Exchange.{exchange-first, exchange-second, exchange-twice, Change, changed, kept, length-exchanged}
 use Rattle.choice.specs.StepLaws.{ChainStart, stepChain, afterChain, setting, chain-runs, chain-distinct, chain-rows, chain-change, placed-same, placed-new}
 use Rattle.choice.specs.RowsLaws.{modules-same, recolour, recolour-again}
+use Rattle.choice.specs.RecordLaws.{told-there, told-nothing}
 
 -- ---- a search by rising numbers
 
@@ -47,67 +49,32 @@ module _ (p : ℕ → Bool) where
   unfolding firstBelow
   search-hit i k e h l = le-ind (λ j. firstBelow j p ≡ some i) (rw (e, h)) (λ j m q. rw (q, firstBelow)) k l
 
--- ---- the row beside a row
-
--- what a search for the row beside answers
-beside-from : (from row : ℕ) → row ≡ from → besideOf from row ≡ none
-unfolding besideOf
-beside-from from row e = rw (eq-eqb row from e, besideOf)
-
-beside-other : (from row : ℕ) → (row ≡ from → ⊥) → besideOf from row ≡ some row
-unfolding besideOf
-beside-other from row n = rw (ne-eqb row from n, besideOf)
-
-module _ (h γ : ℕ → ℕ) (from i : ℕ) where
-  -- it stands at the same module and on the same central, and is another
-  beside-is : T (stands h γ (h from) (γ from) i && not (eqb i from)) ↔ ((h i ≡ h from) × (γ i ≡ γ from) × (i ≡ from → ⊥))
-  beside-is = (
-    λ t.
-        let b = both-is (stands h γ (h from) (γ from) i) (not (eqb i from)) .0 t in
-        let s = both-is (eqb (h i) (h from)) (eqb (γ i) (γ from)) .0 (b .0) in
-        (eqb-is (h i) (h from) .0 (s .0), eqb-is (γ i) (γ from) .0 (s .1), λ e. not-is (eqb i from) .0 (b .1) (eqb-is i from .1 e)),
-    λ w.
-        both-is (stands h γ (h from) (γ from) i) (not (eqb i from)) .1 (
-          both-is (eqb (h i) (h from)) (eqb (γ i) (γ from)) .1 (eqb-is (h i) (h from) .1 (w .0), eqb-is (γ i) (γ from) .1 (w .1)),
-          not-is (eqb i from) .1 (λ t. w .2 (eqb-is i from .0 t)),
-        ),
-  )
-
 -- what a search by rising rows tells, of the row i that it has come to
-module _ (h γ : ℕ → ℕ) (from i : ℕ) (so-far : rowBeside h γ i from ≡ none) where
-  pub beside-hit : (k : ℕ) → h i ≡ h from → γ i ≡ γ from → (i ≡ from → ⊥) → i < k → rowBeside h γ k from ≡ besideOf from i
-  beside-hit k x y n l =
-      search-hit _ i k so-far (same-test _ true (λ t. tt, λ t. beside-is h γ from i .1 (x, y, n))) l ∙ sym (beside-other from i n)
+module _ (h γ : ℕ → ℕ) (v c i : ℕ) (so-far : rowOn h γ i v c ≡ none) where
+  pub on-hit : (k : ℕ) → h i ≡ v → γ i ≡ c → i < k → rowOn h γ k v c ≡ told k i
+  on-hit k x y l = search-hit _ i k so-far (same-test _ true (λ t. tt, λ t. stands-iff h γ v c i .1 (x, y))) l ∙ sym (told-there k i l)
 
-  pub beside-miss : ((h i ≡ h from) × (γ i ≡ γ from) × (i ≡ from → ⊥) → ⊥) → rowBeside h γ (i + 1) from ≡ none
-  beside-miss n = search-miss _ i so-far (same-test _ false (λ t. n (beside-is h γ from i .0 t), λ t. absurd t))
+  pub on-miss : ((h i ≡ v) × (γ i ≡ c) → ⊥) → rowOn h γ (i + 1) v c ≡ none
+  on-miss n = search-miss _ i so-far (same-test _ false (λ t. n (stands-iff h γ v c i .0 t), λ t. absurd t))
 
-  pub beside-end : (k : ℕ) → i ≤ k → k ≤ i → rowBeside h γ k from ≡ besideOf from from
-  beside-end k l m = let q : i ≡ k = omega arith in rw (← q) (so-far ∙ sym (beside-from from from refl))
+  pub on-end : (k : ℕ) → i ≡ k → rowOn h γ k v c ≡ told k i
+  on-end k q = rw (← q) (so-far ∙ sym (told-nothing i i (omega arith)))
 
--- there is one, and no other; or there is none
-module _ (h γ : ℕ → ℕ) (k from : ℕ) where
-  beside-one : (e : ℕ) → e < k → h e ≡ h from → γ e ≡ γ from → (e ≡ from → ⊥) → ((i : ℕ) → i < k → h i ≡ h from → γ i ≡ γ from → (i ≡ from → ⊥) → i ≡ e)
-      → rowBeside h γ k from ≡ some e
-  beside-one e l x y n only = go (found (λ i. stands h γ (h from) (γ from) i && not (eqb i from)) k)
+-- one stands there, and no other; or none does
+module _ (h γ : ℕ → ℕ) (k v c : ℕ) where
+  on-one : (e : ℕ) → e < k → h e ≡ v → γ e ≡ c → ((i : ℕ) → i < k → h i ≡ v → γ i ≡ c → i ≡ e) → rowOn h γ k v c ≡ some e
+  on-one e l x y only = go (standing h γ k v c)
     where
-      go : {o : Option ℕ} → Found (λ i. stands h γ (h from) (γ from) i && not (eqb i from)) k o → o ≡ some e
-      go (hit i m t f) = let w = beside-is h γ from i .0 t in rw (only i m (w .0) (w .1) (w .2))
-      go (miss f) = absurd (f e l (beside-is h γ from e .1 (x, y, n)))
+      go : {o : Option ℕ} → Standing h γ k v c o → o ≡ some e
+      go (row i m p q) = rw (only i m p q)
+      go (free w) = absurd (w e l x y)
 
-  beside-none : ((i : ℕ) → i < k → h i ≡ h from → γ i ≡ γ from → i ≡ from) → rowBeside h γ k from ≡ none
-  beside-none only = go (found (λ i. stands h γ (h from) (γ from) i && not (eqb i from)) k)
+  on-none : Free h γ k v c → rowOn h γ k v c ≡ none
+  on-none n = go (standing h γ k v c)
     where
-      go : {o : Option ℕ} → Found (λ i. stands h γ (h from) (γ from) i && not (eqb i from)) k o → o ≡ none
-      go (hit i m t f) = let w = beside-is h γ from i .0 t in absurd (w .2 (only i m (w .0) (w .1)))
-      go (miss f) = refl
-
-  beside-below : (e : ℕ) → rowBeside h γ k from ≡ some e → e < k
-  beside-below e = go (found (λ i. stands h γ (h from) (γ from) i && not (eqb i from)) k)
-    where
-      go : {o : Option ℕ} → Found (λ i. stands h γ (h from) (γ from) i && not (eqb i from)) k o → o ≡ some e → e < k
-      go (hit i m t f) q = let z : i ≡ e = cc in rw (← z) m
-      go (miss f) q = let z : _≡_ {A = ℕ} 0 1 = cc in absurd (omega arith)
+      go : {o : Option ℕ} → Standing h γ k v c o → o ≡ none
+      go (row i m p q) = absurd (n i m p q)
+      go (free w) = refl
 
 -- ---- from the rule's chain to the chain of the steps
 
@@ -139,75 +106,84 @@ changed-from {c} {d} {x = x} (changed p e) q = inl (p, sym (exchange-twice c d x
 changed-from (kept n e) q = inr (n, sym e ∙ q)
 
 module _ (γ : ℕ → ℕ) (k : ℕ) where
-  -- The steps have come to the row `from`, and the chain goes on from its module v of the side h: the rows of `met` have changed, and
-  -- `from` is on c now; es are the rows to come, and all rows of the chain are met or to come.
+  -- The steps have come to the row `from`, which is on d and takes c, and the chain goes on from its module v of the side h: the rows of
+  -- `met` have changed; es are the rows to come, and all rows of the chain are `from`, met or to come.
   record Halfway (h f : ℕ → ℕ) (v c d : ℕ) (whole met es cs : List ℕ) (from : ℕ) : Type 0 where
     setting-here : Setting γ k h f c d
     runs : Runs γ k h f v c d es
     distinct : Distinct es
     room : k ≤ length cs
+    from-room : from < length cs
     changes : (i : ℕ) → i < k → Change c d met i (γ i) (at cs i)
     at-v : h from ≡ v
-    on-c : at cs from ≡ c
-    from-met : In from es → ⊥
-    alone : (i : ℕ) → i < k → In i met → h i ≡ v → γ i ≡ d → i ≡ from
+    on-d : at cs from ≡ d
+    from-met : In from met → ⊥
+    from-to-come : In from es → ⊥
+    none-met : (i : ℕ) → i < k → In i met → h i ≡ v → γ i ≡ d → ⊥
     apart-met : (i : ℕ) → In i es → In i met → ⊥
-    to-come : (i : ℕ) → In i whole → In i met ⊎ In i es
-    of-whole : (i : ℕ) → In i met ⊎ In i es → In i whole
+    to-come : (i : ℕ) → In i whole → In i (from ∷ met) ⊎ In i es
+    of-whole : (i : ℕ) → i < k → In i (from ∷ met) ⊎ In i es → In i whole
 
-  -- then the steps change just the rows to come, and after them every row of the chain has changed
+  -- then the steps change just `from` and the rows to come, and after them every row of the chain has changed
   record Comes (h f : ℕ → ℕ) (c d : ℕ) (whole es cs : List ℕ) (from : ℕ) : Type 0 where
     after : List ℕ
-    mends : Mends k h f cs from d es after
+    mends : Mends k h f cs from c es after
     size : length after ≡ length cs
     changes : (i : ℕ) → i < k → Change c d whole i (γ i) (at after i)
-    beyond : (i : ℕ) → k ≤ i → at after i ≡ at cs i
+    beyond : (i : ℕ) → k ≤ i → at after i ≡ at (set cs from c) i
 
-  -- a row beside `from` is to come
-  to-come-beside : {h f : ℕ → ℕ} {v c d : ℕ} {whole met es cs : List ℕ} {from : ℕ} → Halfway h f v c d whole met es cs from
-      → (i : ℕ) → i < k → h i ≡ h from → at cs i ≡ at cs from → (i ≡ from → ⊥) → γ i ≡ c
-  to-come-beside {c = c} {d = d} {met = met} w i l x y n = go (changed-from (w .changes i l) (y ∙ w .on-c))
-    where
-      go : (In i met × (γ i ≡ d)) ⊎ ((In i met → ⊥) × (γ i ≡ c)) → γ i ≡ c
-      go (inl p) = absurd (n (w .alone i l (p .0) (x ∙ w .at-v) (p .1)))
-      go (inr p) = p .1
+  module _ {h f : ℕ → ℕ} {v c d : ℕ} {whole met es cs : List ℕ} {from : ℕ} (w : Halfway h f v c d whole met es cs from) where
+    -- a row on c there has not changed
+    still-on : (i : ℕ) → i < k → h i ≡ h from → at cs i ≡ c → γ i ≡ c
+    still-on i l x y = go (changed-from (w .changes i l) y)
+      where
+        go : (In i met × (γ i ≡ d)) ⊎ ((In i met → ⊥) × (γ i ≡ c)) → γ i ≡ c
+        go (inl p) = absurd (w .none-met i l (p .0) (x ∙ w .at-v) (p .1))
+        go (inr p) = p .1
+
+    -- once `from` has taken c, it has changed too
+    taken : (i : ℕ) → i < k → Change c d (from ∷ met) i (γ i) (at (set cs from c) i)
+    taken i l = go (ℕ-discrete i from) (w .changes i l)
+      where
+        own : i ≡ from → Change c d met i (γ i) (at cs i) → γ i ≡ d
+        own q (changed p u) = absurd (w .from-met (rw q at p))
+        own q (kept p u) = sym u ∙ ap (at cs) q ∙ w .on-d
+
+        go : Dec (i ≡ from) → Change c d met i (γ i) (at cs i) → Change c d (from ∷ met) i (γ i) (at (set cs from c) i)
+        go (yes q) u = changed (here q) (ap (at (set cs from c)) q ∙ getD-set-same cs from c 0 (w .from-room) ∙ sym (ap (exchange c d) (own q u) ∙ exchange-second c d))
+        go (no n) (changed p u) = changed (there p) (getD-set-other cs from i c 0 n ∙ u)
+        go (no n) (kept p u) = kept out (getD-set-other cs from i c 0 n ∙ u)
+          where
+            out : In i (from ∷ met) → ⊥
+            out (here q) = n q
+            out (there q) = p q
 
   comes : (es : List ℕ) {h f : ℕ → ℕ} {v c d : ℕ} {whole met cs : List ℕ} {from : ℕ} → Halfway h f v c d whole met es cs from → Comes h f c d whole es cs from
   comes [] {h} {f} {v} {c} {d} {whole} {met} {cs} {from} w = record {
-    after = cs;
-    mends = stop (beside-none h (at cs) k from nobody);
-    size = refl;
-    changes = λ i l. all i (w .changes i l);
+    after = set cs from c;
+    mends = stop (on-none h (at cs) k (h from) c (λ i l x y. ended (w .runs) i l (x ∙ w .at-v) (still-on w i l x y)));
+    size = length-set cs from c;
+    changes = λ i l. all i l (taken w i l);
     beyond = λ i l. refl;
   }
     where
       ended : Runs γ k h f v c d [] → Free h γ k v c
       ended (at-end u) = u
 
-      nobody : (i : ℕ) → i < k → h i ≡ h from → at cs i ≡ at cs from → i ≡ from
-      nobody i l x y = go (ℕ-discrete i from)
-        where
-          go : Dec (i ≡ from) → i ≡ from
-          go (yes e) = e
-          go (no m) = absurd (ended (w .runs) i l (x ∙ w .at-v) (to-come-beside w i l x y m))
-
-      all : (i : ℕ) → Change c d met i (γ i) (at cs i) → Change c d whole i (γ i) (at cs i)
-      all i (changed p e) = changed (w .of-whole i (inl p)) e
-      all i (kept n e) = kept (λ p. ⊎-elim n not-in-nil (w .to-come i p)) e
+      all : (i : ℕ) → i < k → Change c d (from ∷ met) i (γ i) (at (set cs from c) i) → Change c d whole i (γ i) (at (set cs from c) i)
+      all i l (changed p e) = changed (w .of-whole i l (inl p)) e
+      all i l (kept n e) = kept (λ p. ⊎-elim n not-in-nil (w .to-come i p)) e
   comes (e ∷ es) {h} {f} {v} {c} {d} {whole} {met} {cs} {from} w = on (λ u. comes es u) (w .runs)
     where
-      on : (Halfway f h (f e) d c whole (e ∷ met) es (set cs e d) e → Comes f h d c whole es (set cs e d) e) → Runs γ k h f v c d (e ∷ es) → Comes h f c d whole (e ∷ es) cs from
+      on : (Halfway f h (f e) d c whole (from ∷ met) es (set cs from c) e → Comes f h d c whole es (set cs from c) e) → Runs γ k h f v c d (e ∷ es) → Comes h f c d whole (e ∷ es) cs from
       on go-on (goes-on e l x y r) = record {
         after = deep .after;
-        mends = next {h = h} {f = f} {cs = cs} {from = from} {other = d} {es = es} {after = deep .after} e beside (rw (w .on-c) (deep .mends));
-        size = deep .size ∙ length-set cs e d;
+        mends = next {h = h} {f = f} {cs = cs} {from = from} {central = c} {es = es} {after = deep .after} e there-on (rw (w .on-d) (deep .mends));
+        size = deep .size ∙ length-set cs from c;
         changes = λ i m. change-turn (deep .changes i m);
-        beyond = λ i m. deep .beyond i m ∙ getD-set-other cs e i d 0 (λ q. omega arith);
+        beyond = λ i m. deep .beyond i m ∙ getD-set-other (set cs from c) e i d 0 (λ q. omega arith);
       }
         where
-          new : at (set cs e d) e ≡ d
-          new = getD-set-same cs e d 0 (omega (arith, w .room))
-
           -- the row to come is still on c
           still : at cs e ≡ c
           still = go (w .changes e l)
@@ -216,184 +192,181 @@ module _ (γ : ℕ → ℕ) (k : ℕ) where
               go (changed p q) = absurd (w .apart-met e (here refl) p)
               go (kept n q) = q ∙ y
 
-          beside : rowBeside h (at cs) k from ≡ some e
-          beside =
-              beside-one h (at cs) k from e l (x ∙ sym (w .at-v)) (still ∙ sym (w .on-c)) (λ q. w .from-met (here (sym q)))
-              (λ i m p q n. w .setting-here .near i e m l (p ∙ w .at-v ∙ sym x) (to-come-beside w i m p q n ∙ sym y))
+          there-on : rowOn h (at cs) k (h from) c ≡ some e
+          there-on =
+              on-one h (at cs) k (h from) c e l (x ∙ sym (w .at-v)) still
+              (λ i m p q. w .setting-here .near i e m l (p ∙ w .at-v ∙ sym x) (still-on w i m p q ∙ sym y))
 
-          one-more : (i : ℕ) → i < k → Dec (i ≡ e) → Change c d met i (γ i) (at cs i) → Change d c (e ∷ met) i (γ i) (at (set cs e d) i)
-          one-more i m (yes q) u = changed (here q) (rw q (new ∙ sym (ap (exchange d c) y ∙ exchange-second d c)))
-          one-more i m (no n) (changed p u) = changed (there p) (getD-set-other cs e i d 0 n ∙ u ∙ exchange-turn c d (γ i))
-          one-more i m (no n) (kept p u) = kept out (getD-set-other cs e i d 0 n ∙ u)
-            where
-              out : In i (e ∷ met) → ⊥
-              out (here q) = n q
-              out (there q) = p q
+          unmet : In e (from ∷ met) → ⊥
+          unmet (here q) = w .from-to-come (here (sym q))
+          unmet (there p) = w .apart-met e (here refl) p
 
-          come : (i : ℕ) → In i met ⊎ In i (e ∷ es) → In i (e ∷ met) ⊎ In i es
+          come : (i : ℕ) → In i (from ∷ met) ⊎ In i (e ∷ es) → In i (e ∷ from ∷ met) ⊎ In i es
           come i (inl p) = inl (there p)
           come i (inr (here q)) = inl (here q)
           come i (inr (there q)) = inr q
 
-          whole-of : (i : ℕ) → In i (e ∷ met) ⊎ In i es → In i whole
-          whole-of i (inl (here q)) = w .of-whole i (inr (here q))
-          whole-of i (inl (there p)) = w .of-whole i (inl p)
-          whole-of i (inr q) = w .of-whole i (inr (there q))
+          whole-of : (i : ℕ) → i < k → In i (e ∷ from ∷ met) ⊎ In i es → In i whole
+          whole-of i m (inl (here q)) = w .of-whole i m (inr (here q))
+          whole-of i m (inl (there p)) = w .of-whole i m (inl p)
+          whole-of i m (inr q) = w .of-whole i m (inr (there q))
 
-          not-met : (i : ℕ) → In i es → In i (e ∷ met) → ⊥
-          not-met i p (here q) = w .distinct .0 (rw q at p)
+          not-met : (i : ℕ) → In i es → In i (from ∷ met) → ⊥
+          not-met i p (here q) = w .from-to-come (there (rw q at p))
           not-met i p (there q) = w .apart-met i (there p) q
 
-          deep : Comes f h d c whole es (set cs e d) e
+          deep : Comes f h d c whole es (set cs from c) e
           deep = go-on (record {
             setting-here = turn γ k (w .setting-here);
             runs = r;
             distinct = w .distinct .1;
-            room = omega (arith, w .room, length-set cs e d);
-            changes = λ i m. one-more i m (ℕ-discrete i e) (w .changes i m);
+            room = omega (arith, w .room, length-set cs from c);
+            from-room = omega (arith, w .room, length-set cs from c);
+            changes = λ i m. change-turn (taken w i m);
             at-v = refl;
-            on-c = new;
-            from-met = w .distinct .0;
-            alone = λ i m p q u. w .setting-here .far i e m l q (u ∙ sym y);
+            on-d = getD-set-other cs from e c 0 (λ q. unmet (here q)) ∙ still;
+            from-met = unmet;
+            from-to-come = w .distinct .0;
+            none-met = λ i m p q u. unmet (rw (w .setting-here .far i e m l q (u ∙ sym y)) at p);
             apart-met = not-met;
             to-come = λ i p. come i (w .to-come i p);
             of-whole = whole-of;
           })
 
--- From the new call, which has taken a, the steps change the rows of the rule's chain, and leave the centrals that the rule says.
+-- From the new call, which stands on b and takes a, the steps change the rows of the rule's chain, and leave the centrals that the rule says.
 module _ (α β : ℕ → ℕ) (centrals : List ℕ) (k a b : ℕ) (size : length centrals ≡ k) (s : ChainStart α β (at centrals) k a b) where
   abbrev es : List ℕ
   es = stepChain α β (at centrals) k a b
 
-  abbrev taken : List ℕ
-  taken = centrals ++ (a ∷ [])
+  abbrev before : List ℕ
+  before = centrals ++ (b ∷ [])
 
-  pub mends-chain : Mends k β α taken k b es (afterChain α β centrals k a b)
+  pub mends-chain : Mends k β α before k a es (afterChain α β centrals k a b)
   mends-chain = rw (← same) (whole .mends)
     where
-      whole : Comes (at centrals) k β α a b es es taken k
+      whole : Comes (at centrals) k β α a b es es before k
       whole = comes (at centrals) k es (record {
         setting-here = setting α β (at centrals) k a b s;
         runs = chain-runs α β (at centrals) k a b s;
         distinct = chain-distinct α β (at centrals) k a b s;
-        room = omega (arith, length-append centrals (a ∷ []));
-        changes = λ i l. kept not-in-nil (placed-same centrals k a i size l);
+        room = omega (arith, length-append centrals (b ∷ []));
+        from-room = omega (arith, length-append centrals (b ∷ []));
+        changes = λ i l. kept not-in-nil (placed-same centrals k b i size l);
         at-v = refl;
-        on-c = placed-new centrals k a size;
-        from-met = λ p. omega (arith, chain-rows α β (at centrals) k a b s k p .0);
-        alone = λ i l p. absurd (not-in-nil p);
+        on-d = placed-new centrals k b size;
+        from-met = not-in-nil;
+        from-to-come = λ p. omega (arith, chain-rows α β (at centrals) k a b s k p .0);
+        none-met = λ i l p. absurd (not-in-nil p);
         apart-met = λ i p. not-in-nil;
         to-come = λ i p. inr p;
-        of-whole = λ i. ⊎-elim (λ p. absurd (not-in-nil p)) (λ p. p);
+        of-whole = λ i l. ⊎-elim (λ p. absurd (new i l p)) (λ p. p);
       })
+        where
+          new : (i : ℕ) → i < k → In i (k ∷ []) → ⊥
+          new i l (here q) = omega arith
+          new i l (there p) = not-in-nil p
 
       as-long : length (whole .after) ≡ length (afterChain α β centrals k a b)
-      as-long = whole .size ∙ omega (arith, length-append centrals (a ∷ []), length-append (exchanged a b centrals es) (a ∷ []), length-exchanged a b centrals es)
+      as-long = whole .size ∙ omega (arith, length-append centrals (b ∷ []), length-append (exchanged a b centrals es) (a ∷ []), length-exchanged a b centrals es)
 
       each : (i : ℕ) → (i ≡ k) ⊎ (i < k) → at (whole .after) i ≡ at (afterChain α β centrals k a b) i
-      each i (inl e) = rw e (whole .beyond k (omega arith) ∙ placed-new centrals k a size ∙ sym (placed-new (exchanged a b centrals es) k a (length-exchanged a b centrals es ∙ size)))
+      each i (inl e) =
+          rw e (whole .beyond k (omega arith) ∙ getD-set-same before k a 0 (omega (arith, length-append centrals (b ∷ [])))
+          ∙ sym (placed-new (exchanged a b centrals es) k a (length-exchanged a b centrals es ∙ size)))
       each i (inr l) = one-change (whole .changes i l) (chain-change α β centrals k a b size s i l) ∙ sym (placed-same (exchanged a b centrals es) k a i (length-exchanged a b centrals es ∙ size) l)
 
       same : whole .after ≡ afterChain α β centrals k a b
-      same = ext-getD 0 _ _ as-long (λ i l. each i (below-suc (omega (arith, whole .size, length-append centrals (a ∷ [])))))
+      same = ext-getD 0 _ _ as-long (λ i l. each i (below-suc (omega (arith, whole .size, length-append centrals (b ∷ [])))))
 
 -- ---- the cases of a chain step
 
-mends-none : {k : ℕ} {h f : ℕ → ℕ} {cs : List ℕ} {from other : ℕ} {es after : List ℕ} → Mends k h f cs from other es after
-    → rowBeside h (at cs) k from ≡ none → (es ≡ []) × (after ≡ cs)
+mends-none : {k : ℕ} {h f : ℕ → ℕ} {cs : List ℕ} {from central : ℕ} {es after : List ℕ} → Mends k h f cs from central es after
+    → rowOn h (at cs) k (h from) central ≡ none → (es ≡ []) × (after ≡ set cs from central)
 mends-none (stop n) e = (refl, refl)
 mends-none (next i n m) e = let z : _≡_ {A = ℕ} 0 1 = cc in absurd (omega arith)
 
-mends-some : {k : ℕ} {h f : ℕ → ℕ} {cs : List ℕ} {from other : ℕ} {es after : List ℕ} (e : ℕ) → Mends k h f cs from other es after
-    → rowBeside h (at cs) k from ≡ some e → (rest : List ℕ) × (es ≡ e ∷ rest) × Mends k f h (set cs e other) e (at cs from) rest after
+mends-some : {k : ℕ} {h f : ℕ → ℕ} {cs : List ℕ} {from central : ℕ} {es after : List ℕ} (e : ℕ) → Mends k h f cs from central es after
+    → rowOn h (at cs) k (h from) central ≡ some e → (rest : List ℕ) × (es ≡ e ∷ rest) × Mends k f h (set cs from central) e (at cs from) rest after
 mends-some e (stop n) q = let z : _≡_ {A = ℕ} 0 1 = cc in absurd (omega arith)
 mends-some e (next {es = rest} i n m) q = let z : i ≡ e = cc in (rest, ap (λ (j : ℕ). j ∷ rest) z, rw z at m)
 
-pub same-mends : {k : ℕ} {h f h′ f′ : ℕ → ℕ} {cs cs′ : List ℕ} {from other other′ : ℕ} {es after : List ℕ} → h ≡ h′ → f ≡ f′ → cs ≡ cs′ → other ≡ other′
-    → Mends k h f cs from other es after → Mends k h′ f′ cs′ from other′ es after
-same-mends a b c d m = rw (← a, ← b, ← c, ← d) m
+pub same-mends : {k : ℕ} {h f h′ f′ : ℕ → ℕ} {cs cs′ : List ℕ} {from central : ℕ} {es after : List ℕ} → h ≡ h′ → f ≡ f′ → cs ≡ cs′
+    → Mends k h f cs from central es after → Mends k h′ f′ cs′ from central es after
+same-mends a b c m = rw (← a, ← b, ← c) m
 
 pub not-twice : (b : Bool) → not (not b) ≡ b
 not-twice true = refl
 not-twice false = refl
 
-rows-k : (rows : List ℕ) (k : ℕ) → length rows ≡ 3 * suc k → length rows / 3 - 1 ≡ k
-rows-k rows k e = omega arith
+-- A chain step: the row `from` takes `central`, and `row` is what the search for a call that stands on it there has told.
+pub record Stepping (output : Bool) (rows : List ℕ) (from central left row : ℕ) : Type 0 where
+  pub mendable : Mendable output rows from central left
+  pub searched : rowOn (moduleIn rows output) (at (centralsOf rows)) (length rows / 3 - 1) (moduleIn rows output from) central ≡ told (length rows / 3 - 1) row
 
--- No call stands beside: the chain has ended.
-pub mended-end : (output : Bool) (rows : List ℕ) {chain : List ℕ} (from other left row : ℕ) → rowBeside (moduleIn rows output) (at (centralsOf rows)) (length rows / 3 - 1) from ≡ besideOf from row
-    → row ≡ from → Mended output rows rows chain chain from other left left
-unfolding telling
-mended-end output rows from other left row searched e = record {
-  by-the-rows = λ k es after w m.
-      let n = mends-none m (rw (rows-k rows k w) at (searched ∙ beside-from from row e)) in
-      rw (n .0, n .1) (record { size = refl; modules = λ s i. refl; centrals = refl }, refl, omega arith);
-}
+module _ {output : Bool} {rows : List ℕ} {from central left row : ℕ} (s : Stepping output rows from central left row) where
+  abbrev after-change : List ℕ
+  after-change = set rows (3 * from + 1) central
 
--- A call stands beside, on row `row`: it takes the other central, and the chain goes on from it.
-pub record Stepping (output : Bool) (rows : List ℕ) (from other left row central : ℕ) : Type 0 where
-  pub searched : rowBeside (moduleIn rows output) (at (centralsOf rows)) (length rows / 3 - 1) from ≡ besideOf from row
-  pub another : row ≡ from → ⊥
-  pub read : central ≡ at (centralsOf rows) from
-  pub mendable : Mendable output rows from other left
+  searched-in : (k : ℕ) → length rows ≡ 3 * suc k → rowOn (moduleIn rows output) (at (centralsOf rows)) k (moduleIn rows output from) central ≡ told k row
+  searched-in k w = let q : length rows / 3 - 1 ≡ k = omega arith in rw q at (s .searched)
 
-module _ {output : Bool} {rows : List ℕ} {from other left row central : ℕ} (s : Stepping output rows from other left row central) where
-  found-there : (k : ℕ) → length rows ≡ 3 * suc k → rowBeside (moduleIn rows output) (at (centralsOf rows)) k from ≡ some row
-  found-there k w = rw (rows-k rows k w) at (s .searched ∙ beside-other from row (s .another))
-
-  goes-on-there : (k : ℕ) (es after : List ℕ) → length rows ≡ 3 * suc k → MendsIn k output rows from other es after
-      → (rest : List ℕ) × (es ≡ row ∷ rest) × MendsIn k (not output) (set rows (3 * row + 1) other) row central rest after
-  goes-on-there k es after w m =
-      let g = recolour rows row other in
-      let t = mends-some row m (found-there k w) in
-      let same : (side : Bool) → moduleIn rows side ≡ moduleIn (set rows (3 * row + 1) other) side = λ side. sym (ap (λ (sides : Bool → ℕ → ℕ). sides side) (modules-same g)) in (
-        t .0,
-        t .1,
-        same-mends (same (not output)) (same output ∙ ap (moduleIn (set rows (3 * row + 1) other)) (sym (not-twice output))) (sym (g .centrals)) (sym (s .read)) (t .2),
-      )
-
-  rest-here : (rest : List ℕ) × (s .mendable .es ≡ row ∷ rest) × MendsIn (s .mendable .k) (not output) (set rows (3 * row + 1) other) row central rest (s .mendable .after)
-  rest-here = let m = s .mendable in goes-on-there (m .k) (m .es) (m .after) (m .whole) (m .mends)
-
-  -- then a module is left to meet, and there is room for the stores
-  pub some-left : 1 ≤ left
-  some-left = omega (arith, ap length (rest-here .1), s .mendable .enough)
-
-  pub change-room : (3 * row + 3 ≤ length rows) × (row < mostCalls) × (left - 1 < chainPlaces)
-  change-room =
-      let m = s .mendable in
-      let l = beside-below (moduleIn rows output) (at (centralsOf rows)) (m .k) from row (found-there (m .k) (m .whole)) in
-      let one = some-left in
-      (omega (arith, m .whole), omega (arith, m .small), omega (arith, m .places))
-
-  pub mendable-on : Mendable (not output) (set rows (3 * row + 1) other) row central (left - 1)
-  mendable-on =
-      let m = s .mendable in
-      record {
-        k = m .k;
-        whole = length-set rows (3 * row + 1) other ∙ m .whole;
-        small = m .small;
-        row = omega (arith, change-room .0, m .whole);
-        es = rest-here .0;
-        after = m .after;
-        mends = rest-here .2;
-        enough = omega (arith, ap length (rest-here .1), m .enough);
-        places = omega (arith, m .places);
-      }
-
-  pub mended-on : {rows₁ rows′ chain chain₁ chain′ : List ℕ} {end : ℕ} → rows₁ ≡ set rows (3 * row + 1) other → chain₁ ≡ set chain (left - 1) row
-      → Mended (not output) rows₁ rows′ chain₁ chain′ row central (left - 1) end → Mended output rows rows′ chain chain′ from other left end
+  -- No call stands there: the chain has ended.
+  pub mended-end : {chain : List ℕ} → length rows ≤ 3 * row + 3 → Mended output rows after-change chain chain from central left left
   unfolding telling
-  mended-on e f d = record {
+  mended-end e = record {
     by-the-rows = λ k es after w m.
-        let one = some-left in
-        let t = goes-on-there k es after w m in
-        let u = d .by-the-rows k (t .0) after (rw e (length-set rows (3 * row + 1) other ∙ w)) (rw e (t .2)) in (
-          recolour-again {cs = set (centralsOf rows) row other} (rw e (recolour rows row other)) (u .0),
-          rw (t .1) (u .1 ∙ ap (λ (told : List ℕ). telling told (left - 1) (t .0)) f),
-          rw (t .1) (omega arith),
-        );
+        let n = mends-none m (searched-in k w ∙ told-nothing k row (omega arith)) in
+        rw (n .0, n .1) (recolour rows from central, refl, omega arith);
   }
+
+  -- A call stands there: it takes the central that the row had, and the chain goes on from it.
+  module _ (there : 3 * row + 3 < length rows) where
+    goes-on-there : (k : ℕ) (es after : List ℕ) → length rows ≡ 3 * suc k → MendsIn k output rows from central es after
+        → (rest : List ℕ) × (es ≡ row ∷ rest) × MendsIn k (not output) after-change row (at (centralsOf rows) from) rest after
+    goes-on-there k es after w m =
+        let g = recolour rows from central in
+        let t = mends-some row m (searched-in k w ∙ told-there k row (omega arith)) in
+        let same : (side : Bool) → moduleIn rows side ≡ moduleIn after-change side = λ side. sym (ap (λ (sides : Bool → ℕ → ℕ). sides side) (modules-same g)) in
+        (t .0, t .1, same-mends (same (not output)) (same output ∙ ap (moduleIn after-change) (sym (not-twice output))) (sym (g .centrals)) (t .2))
+
+    rest-here : (rest : List ℕ) × (s .mendable .es ≡ row ∷ rest) × MendsIn (s .mendable .k) (not output) after-change row (at (centralsOf rows) from) rest (s .mendable .after)
+    rest-here = let m = s .mendable in goes-on-there (m .k) (m .es) (m .after) (m .whole) (m .mends)
+
+    -- then a module is left to meet, and there is room for the row's number
+    pub some-left : 1 ≤ left
+    some-left = omega (arith, ap length (rest-here .1), s .mendable .enough)
+
+    pub tell-room : (left - 1 < chainPlaces) × (row < mostCalls)
+    tell-room = let m = s .mendable in let one = some-left in (omega (arith, m .places), omega (arith, m .small, m .whole))
+
+    pub mendable-on : {rows₁ : List ℕ} {other : ℕ} → rows₁ ≡ after-change → other ≡ at (centralsOf rows) from → Mendable (not output) rows₁ row other (left - 1)
+    mendable-on e o =
+        let m = s .mendable in
+        rw (e, o) (record {
+          k = m .k;
+          whole = length-set rows (3 * from + 1) central ∙ m .whole;
+          small = m .small;
+          row = omega (arith, m .whole);
+          es = rest-here .0;
+          after = m .after;
+          mends = rest-here .2;
+          enough = omega (arith, ap length (rest-here .1), m .enough);
+          places = omega (arith, m .places);
+        })
+
+    pub mended-on : {rows₁ rows′ chain chain₁ chain′ : List ℕ} {end other : ℕ} → rows₁ ≡ after-change → other ≡ at (centralsOf rows) from → chain₁ ≡ set chain (left - 1) row
+        → Mended (not output) rows₁ rows′ chain₁ chain′ row other (left - 1) end → Mended output rows rows′ chain chain′ from central left end
+    unfolding telling
+    mended-on e o f d = record {
+      by-the-rows = λ k es after w m.
+          let one = some-left in
+          let t = goes-on-there k es after w m in
+          let u = (rw (e, o) at d) .by-the-rows k (t .0) after (length-set rows (3 * from + 1) central ∙ w) (t .2) in (
+            recolour-again (recolour rows from central) (u .0),
+            rw (t .1) (u .1 ∙ ap (λ (told : List ℕ). telling told (left - 1) (t .0)) f),
+            rw (t .1) (omega arith),
+          );
+    }
 
 -- ---- what the chain tells
 

@@ -1,9 +1,7 @@
 -- What placing a call rests on and leaves, in rows of three bytes with a record of use; and what the two chain steps do, row by
--- row: a call takes the central of the one beside it, which then takes the other.
---   rowBeside h γ k from     == the row below k, other than `from`, at the same module of the side h and on the same central
---   besideOf from row        == an answer that is `from` itself found no such row
---   Mends k h f cs from other es after == from the row `from`, on the side h, the rows es change one after the other between
---                               the central of `from` and the other, and leave the centrals `after`
+-- row: a row takes a central, and the call that stands on it there takes the one that the row had.
+--   Mends k h f cs from central es after == the row `from` takes the central; from its module of the side h the rows es change, each to
+--                               the central that the row before it had, and leave the centrals `after`
 --   telling chain left es    == the rows es are told in `chain`, from the place below `left` down
 --   chainPlaces              == the modules of both sides of the largest network, but one
 --   Mendable, Mended         == what a chain step rests on, and what it leaves
@@ -12,31 +10,25 @@
 --   MendsIn                  == the same, from a row of the slice and on one of its sides
 --   earlier rows k, stepIn net rows k == the centrals of the rows before row k, and the step that places it
 use mathlib.Core.Path.{_≡_}
-use mathlib.Core.Bool.{Bool, true, false, not, _&&_}
-use mathlib.Core.Option.{Option, none, some}
+use mathlib.Core.Bool.{Bool, true, false, not}
+use mathlib.Core.Option.{none, some}
 use mathlib.Core.List.{List, [], _∷_}
 use Prim.Native.Nat.{ℕ, suc, _+_, _*_, _-_, _≤_, _<_}
-use lib.Dec.{T, eqb}
+use lib.Dec.{T}
 use lib.ListN.{length, set, take}
 use Rattle.shelf.specs.declared.Network.{Network}
 use Rattle.shelf.specs.Network.{mostModules, mostCentrals, mostCalls, withinLimits}
 use Rattle.shelf.specs.Order.{order}
 use Rattle.shelf.specs.Rows.{ModulesBelow}
-use Rattle.choice.specs.Rule.{at, firstBelow, firstOf, stands, step, Step}
+use Rattle.choice.specs.Rule.{at, firstOf, rowOn, step, Step}
 use Rattle.choice.specs.Colouring.{atModule, Fine}
 use Rattle.choice.specs.Rows.{moduleIn, centralsOf, Recoloured}
 use Rattle.choice.specs.Record.{moduleNumber, bothFree, toldCentral, Recorded}
 
-abbrev pub rowBeside : (h γ : ℕ → ℕ) (k from : ℕ) → Option ℕ
-rowBeside h γ k from = firstBelow k (λ i. stands h γ (h from) (γ from) i && not (eqb i from))
-
-unfoldable pub besideOf : (from row : ℕ) → Option ℕ
-besideOf from row = elim (eqb row from) [ true ↦ none | false ↦ some row ]
-
-pub data Mends (k : ℕ) : (h f : ℕ → ℕ) (cs : List ℕ) (from other : ℕ) (es after : List ℕ) → Type 0 where
-  stop : {h f : ℕ → ℕ} {cs : List ℕ} {from other : ℕ} → rowBeside h (at cs) k from ≡ none → Mends k h f cs from other [] cs
-  next : {h f : ℕ → ℕ} {cs : List ℕ} {from other : ℕ} {es after : List ℕ} (e : ℕ) → rowBeside h (at cs) k from ≡ some e
-      → Mends k f h (set cs e other) e (at cs from) es after → Mends k h f cs from other (e ∷ es) after
+pub data Mends (k : ℕ) : (h f : ℕ → ℕ) (cs : List ℕ) (from central : ℕ) (es after : List ℕ) → Type 0 where
+  stop : {h f : ℕ → ℕ} {cs : List ℕ} {from central : ℕ} → rowOn h (at cs) k (h from) central ≡ none → Mends k h f cs from central [] (set cs from central)
+  next : {h f : ℕ → ℕ} {cs : List ℕ} {from central : ℕ} {es after : List ℕ} (e : ℕ) → rowOn h (at cs) k (h from) central ≡ some e
+      → Mends k f h (set cs from central) e (at cs from) es after → Mends k h f cs from central (e ∷ es) after
 
 unfoldable pub chainPlaces : ℕ
 chainPlaces = 2 * mostModules - 1
@@ -46,23 +38,23 @@ telling chain left [] = chain
 telling chain left (e ∷ es) = telling (set chain (left - 1) e) (left - 1) es
 
 -- the chain from the output module of the row `from` where `output`, else from its input module
-abbrev pub MendsIn : (k : ℕ) (output : Bool) (rows : List ℕ) (from other : ℕ) (es after : List ℕ) → Type 0
-MendsIn k output rows from other es after = Mends k (moduleIn rows output) (moduleIn rows (not output)) (centralsOf rows) from other es after
+abbrev pub MendsIn : (k : ℕ) (output : Bool) (rows : List ℕ) (from central : ℕ) (es after : List ℕ) → Type 0
+MendsIn k output rows from central es after = Mends k (moduleIn rows output) (moduleIn rows (not output)) (centralsOf rows) from central es after
 
 -- it ends, while modules are left to meet
-pub record Mendable (output : Bool) (rows : List ℕ) (from other left : ℕ) : Type 0 where
+pub record Mendable (output : Bool) (rows : List ℕ) (from central left : ℕ) : Type 0 where
   pub k : ℕ
   pub whole : length rows ≡ 3 * suc k
   pub small : k < mostCalls
   pub row : from < suc k
   pub es : List ℕ
   pub after : List ℕ
-  pub mends : MendsIn k output rows from other es after
+  pub mends : MendsIn k output rows from central es after
   pub enough : length es ≤ left
   pub places : left ≤ chainPlaces
 
-pub record Mended (output : Bool) (rows rows′ chain chain′ : List ℕ) (from other left end : ℕ) : Type 0 where
-  pub by-the-rows : (k : ℕ) (es after : List ℕ) → length rows ≡ 3 * suc k → MendsIn k output rows from other es after
+pub record Mended (output : Bool) (rows rows′ chain chain′ : List ℕ) (from central left end : ℕ) : Type 0 where
+  pub by-the-rows : (k : ℕ) (es after : List ℕ) → length rows ≡ 3 * suc k → MendsIn k output rows from central es after
       → Recoloured rows rows′ after × (chain′ ≡ telling chain left es) × (end + length es ≡ left)
 
 -- the centrals of the rows before row k

@@ -1,5 +1,5 @@
 -- One placement, as the code does it, is one step of the choice rule, and leaves the record right at every module.
---   searches-agree              == a search of the record is the rule's search
+--   search-both, search-one     == a search of the record is the rule's search
 --   Searched net rows k used chain a b == no central is common, and a and b are what the searches found
 --   recorded-so-far, recordable-common, placed-common == a common central: before its row is recorded, and after
 --   first-free, small-a, small-b == a search at one module finds a central
@@ -111,7 +111,7 @@ module _ {net : Network} {rows : List ℕ} {k : ℕ} {used chain : List ℕ} (h 
 
   module _ (c : ℕ) (found : firstOf (order net) (bothFree used (moduleNumber false (moduleIn rows false k)) (moduleNumber true (moduleIn rows true k))) ≡ toldCentral c) (l : c < mostCentrals) where
     step-is-common : stepIn net rows k ≡ record { centrals = earlier rows k ++ (c ∷ []); moved = [] }
-    step-is-common = step-common _ _ (order net) (earlier rows k) k c (sym (search-both false true) ∙ found ∙ told-there c l)
+    step-is-common = step-common _ _ (order net) (earlier rows k) k c (sym (search-both false true) ∙ found ∙ told-there mostCentrals c l)
 
     pub recordable-common : Recordable (set rows (3 * k + 1) c) (k + 1)
     recordable-common = record {
@@ -143,7 +143,7 @@ module _ {net : Network} {rows : List ℕ} {k : ℕ} {used chain : List ℕ} (h 
   first-free s c e =
       let n : ¬ (mostCentrals ≤ c) = λ l.
       some-free (moduleIn rows s) (at (earlier rows k)) k (moduleIn rows s k) (order net) (order-distinct net) (h .room s)
-      (first-none (order net) (isFree (moduleIn rows s) (at (earlier rows k)) k (moduleIn rows s k)) (sym (search-one s) ∙ e ∙ told-nothing c l)) in
+      (first-none (order net) (isFree (moduleIn rows s) (at (earlier rows k)) k (moduleIn rows s k)) (sym (search-one s) ∙ e ∙ told-nothing mostCentrals c l)) in
       omega arith
 
 -- ---- a chain
@@ -186,13 +186,13 @@ module _ {net : Network} {rows : List ℕ} {k : ℕ} {used chain : List ℕ} {a 
   small-b = first-free h true b (s .first-b)
 
   none-common : firstOf (order net) (λ x. isFree α (at cs) k (α k) x && isFree β (at cs) k (β k) x) ≡ none
-  none-common = sym (search-both h false true) ∙ s .nothing-common .searched ∙ told-nothing _ (s .nothing-common .none-below)
+  none-common = sym (search-both h false true) ∙ s .nothing-common .searched ∙ told-nothing mostCentrals _ (s .nothing-common .none-below)
 
   a-is : firstOf (order net) (isFree α (at cs) k (α k)) ≡ some a
-  a-is = sym (search-one h false) ∙ s .first-a ∙ told-there a small-a
+  a-is = sym (search-one h false) ∙ s .first-a ∙ told-there mostCentrals a small-a
 
   b-is : firstOf (order net) (isFree β (at cs) k (β k)) ≡ some b
-  b-is = sym (search-one h true) ∙ s .first-b ∙ told-there b small-b
+  b-is = sym (search-one h true) ∙ s .first-b ∙ told-there mostCentrals b small-b
 
   free-both : In a (order net) × In b (order net) × Free α (at cs) k (α k) a × Free β (at cs) k (β k) b × (Free β (at cs) k (β k) a → ⊥)
   free-both = searched α β (order net) cs k a b none-common a-is b-is
@@ -203,14 +203,14 @@ module _ {net : Network} {rows : List ℕ} {k : ℕ} {used chain : List ℕ} {a 
   step-is : stepIn net rows k ≡ record { centrals = afterChain α β cs k a b; moved = es }
   step-is = step-by-chain α β (order net) cs k a b none-common a-is b-is
 
-  -- the new call takes a, and the chain goes from it
-  abbrev taken : List ℕ
-  taken = set rows (3 * k + 1) a
+  -- the new call stands on b, and takes a in the first step of the chain
+  abbrev before-chain : List ℕ
+  before-chain = set rows (3 * k + 1) b
 
-  mends-here : MendsIn k true taken k b es (afterChain α β cs k a b)
+  mends-here : MendsIn k true before-chain k a es (afterChain α β cs k a b)
   mends-here =
-      let same : (t : Bool) → moduleIn rows t ≡ moduleIn taken t = λ t. sym (ap (λ (side : Bool → ℕ → ℕ). side t) (modules-same (recolour rows k a))) in
-      same-mends (same true) (same false) (sym (last-taken rows k a (h .whole))) refl (mends-chain α β cs k a b size start)
+      let same : (t : Bool) → moduleIn rows t ≡ moduleIn before-chain t = λ t. sym (ap (λ (side : Bool → ℕ → ℕ). side t) (modules-same (recolour rows k b))) in
+      same-mends (same true) (same false) (sym (last-taken rows k b (h .whole))) (mends-chain α β cs k a b size start)
 
   few : length es ≤ 2 * net .r - 2
   few = chain-few α β (at cs) k a b start (net .r) (h .modules)
@@ -219,11 +219,11 @@ module _ {net : Network} {rows : List ℕ} {k : ℕ} {used chain : List ℕ} {a 
   unfolding chainPlaces
   chain-room = let l = limits-are net .0 (h .limits) in omega arith
 
-  pub mendable : Mendable true taken k b (2 * net .r - 1)
+  pub mendable : Mendable true before-chain k a (2 * net .r - 1)
   mendable =
       record {
         k = k;
-        whole = recolour rows k a .size ∙ h .whole;
+        whole = recolour rows k b .size ∙ h .whole;
         small = h .small;
         row = omega arith;
         es = es;
@@ -242,15 +242,15 @@ module _ {net : Network} {rows : List ℕ} {k : ℕ} {used chain : List ℕ} {a 
       go (e ∷ rest) q = (e, rest, q)
 
   -- what the steps have left
-  module _ {rows′ chain′ : List ℕ} {left : ℕ} (mended : Mended true taken rows′ chain chain′ k b (2 * net .r - 1) left) where
-    gone : Recoloured taken rows′ (afterChain α β cs k a b) × (chain′ ≡ telling chain (2 * net .r - 1) es) × (left + length es ≡ 2 * net .r - 1)
-    gone = mended .by-the-rows k es (afterChain α β cs k a b) (recolour rows k a .size ∙ h .whole) mends-here
+  module _ {rows′ chain′ : List ℕ} {left : ℕ} (mended : Mended true before-chain rows′ chain chain′ k a (2 * net .r - 1) left) where
+    gone : Recoloured before-chain rows′ (afterChain α β cs k a b) × (chain′ ≡ telling chain (2 * net .r - 1) es) × (left + length es ≡ 2 * net .r - 1)
+    gone = mended .by-the-rows k es (afterChain α β cs k a b) (recolour rows k b .size ∙ h .whole) mends-here
 
     pub left-few : left < 2 * net .r - 1
     left-few = let some : 1 ≤ length es = rw (some-rows .2) (omega arith) in omega (arith, gone .2)
 
     recoloured : Recoloured rows rows′ (afterChain α β cs k a b)
-    recoloured = recolour-again (recolour rows k a) (gone .0)
+    recoloured = recolour-again (recolour rows k b) (gone .0)
 
     abbrev moved : ℕ
     moved = 2 * net .r - 1 - left

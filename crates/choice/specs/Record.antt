@@ -1,14 +1,14 @@
--- The record of the centrals in use: one byte for each module of each side and each central. Only this file and its laws
--- (RecordLaws) know that it is bytes.
+-- The record of the centrals in use: one word for each module of each side, with a bit for each central, set where it is in use.
+-- Only this file and its laws (RecordLaws) know that it is words.
 --   modulesOfBoth        == how many modules the two sides of the largest network have
 --   moduleNumber output v == the number of module v among those of both sides
---   useSlot p c          == where the module of number p and the central c stand in the record
---   recordSize, nothingUsed == the bytes of the record, and the record of no calls
+--   recordSize, nothingUsed == the words of the record, and the record of no calls
 --   inUse used p c       == central c is in use at the module of number p
 --   bothFree used p q c  == central c is free at both modules
 --   taking used p c      == the record with c taken there
 --   swapping used p a b  == the record with the use of a and b exchanged there
---   toldCentral c        == what the answer c of a search tells: this central, or none where no shelf has one of that number
+--   told k n             == what the answer n of a search below k tells: this number, or none where it is not below k
+--   toldCentral c        == the same of a search for a central
 --   Recorded side γ k used == the record says of every module and central whether it is free, of the rows below k
 --   Recordable rows k    == a record can be made of the rows below k
 use mathlib.Core.Path.{_≡_}
@@ -16,8 +16,9 @@ use mathlib.Core.Bool.{Bool, true, false, not, _&&_}
 use mathlib.Core.Option.{Option, none, some}
 use mathlib.Core.List.{List}
 use Prim.Native.Nat.{ℕ, _+_, _*_, _≤_, _<_}
-use lib.Dec.{eqb, ltb}
-use lib.ListN.{length, getD, set, replicate}
+use lib.Dec.{ltb}
+use lib.ListN.{length, replicate}
+use Rattle.ground.specs.Words.{bitAt, putAt}
 use Rattle.shelf.specs.Network.{mostModules, mostCentrals}
 use Rattle.choice.specs.Rule.{at, isFree}
 use Rattle.choice.specs.Rows.{moduleIn, centralsOf}
@@ -29,29 +30,29 @@ unfoldable pub moduleNumber : Bool → ℕ → ℕ
 moduleNumber false v = v
 moduleNumber true v = mostModules + v
 
-unfoldable pub useSlot : ℕ → ℕ → ℕ
-useSlot p c = p * mostCentrals + c
-
 unfoldable pub recordSize : ℕ
-recordSize = modulesOfBoth * mostCentrals
+recordSize = modulesOfBoth
 
 unfoldable pub nothingUsed : List ℕ
 nothingUsed = replicate recordSize 0
 
 unfoldable pub inUse : List ℕ → ℕ → ℕ → Bool
-inUse used p c = eqb (getD used (useSlot p c) 0) 1
+inUse used p c = bitAt used p c
 
 unfoldable pub bothFree : List ℕ → ℕ → ℕ → ℕ → Bool
 bothFree used p q c = not (inUse used p c) && not (inUse used q c)
 
 unfoldable pub taking : List ℕ → ℕ → ℕ → List ℕ
-taking used p c = set used (useSlot p c) 1
+taking used p c = putAt used p c true
 
 unfoldable pub swapping : List ℕ → ℕ → ℕ → ℕ → List ℕ
-swapping used p a b = set (set used (useSlot p a) (getD used (useSlot p b) 0)) (useSlot p b) (getD used (useSlot p a) 0)
+swapping used p a b = putAt (putAt used p a (bitAt used p b)) p b (bitAt used p a)
 
-unfoldable pub toldCentral : ℕ → Option ℕ
-toldCentral c = elim (ltb c mostCentrals) [ true ↦ some c | false ↦ none ]
+unfoldable pub told : ℕ → ℕ → Option ℕ
+told k n = elim (ltb n k) [ true ↦ some n | false ↦ none ]
+
+abbrev pub toldCentral : ℕ → Option ℕ
+toldCentral c = told mostCentrals c
 
 pub record Recorded (side : Bool → ℕ → ℕ) (γ : ℕ → ℕ) (k : ℕ) (used : List ℕ) : Type 0 where
   pub size : length used ≡ recordSize

@@ -1,5 +1,6 @@
--- Laws of the record of use: what each change of it does to what it says. Nothing above looks at its bytes.
---   told-there, told-nothing == what the answer of a search for a central tells
+-- Laws of the record of use: what each change of it does to what it says. Nothing above looks at its words.
+--   told-there, told-nothing == what the answer of a search tells
+--   free-first            == the lowest bit of a free word
 --   useOf used output v c == what the record says of central c at module v of a side
 --   sameSide s t          == two sides are the same
 --   use-taking, use-swapping, taking-size, swapping-size, taken-or == a change of the record
@@ -13,80 +14,52 @@ use Prim.Native.Nat.{ℕ, suc, _+_, _≤_, _<_}
 use native.Mathlib.Decide.{ℕ-discrete}
 use native.Mathlib.Omega.{arith}
 use lib.Dec.{eqb}
-use lib.ListN.{length, getD, set, length-set, length-replicate, getD-replicate}
-use lib.Seq.{getD-set-same, getD-set-other}
-use borrow.Author.Tests.{lt-ltb, le-ltb, eq-eqb, ne-eqb, eqb-true}
+use lib.ListN.{length, getD, length-replicate, getD-replicate}
+use borrow.Author.Tests.{lt-ltb, le-ltb, eq-eqb, ne-eqb}
 use Rattle.ground.specs.TruthLaws.{same-test}
-use Rattle.ground.specs.Numbers.{slot-same, eqb-is}
+use Rattle.ground.specs.Numbers.{eqb-is}
+use Rattle.ground.specs.Words.{wordSize, hasBit, Neither, least, First, bitAt, putAt}
+use Rattle.ground.specs.WordsLaws.{no-bit, put-at, length-put-at, least-is}
 use Rattle.shelf.specs.Network.{mostModules, mostCentrals}
+use Rattle.shelf.specs.NetworkLaws.{central-bit}
 use Rattle.choice.specs.Rule.{firstBelow, isNone, isFree, exchange}
 use Rattle.choice.specs.Exchange.{exchange-first, exchange-second, exchange-other}
 use Rattle.choice.specs.UseAfter.{use-next, use-same}
-use Rattle.choice.specs.Record.{modulesOfBoth, moduleNumber, useSlot, recordSize, nothingUsed, inUse, taking, swapping, toldCentral, Recorded}
+use Rattle.choice.specs.Record.{modulesOfBoth, moduleNumber, recordSize, nothingUsed, inUse, bothFree, taking, swapping, told, Recorded}
 
 -- what an answer of a search tells
-pub told-there : (c : ℕ) → c < mostCentrals → toldCentral c ≡ some c
-unfolding toldCentral
-told-there c h = rw (lt-ltb c mostCentrals h, toldCentral)
+pub told-there : (k n : ℕ) → n < k → told k n ≡ some n
+unfolding told
+told-there k n h = rw (lt-ltb n k h, told)
 
-pub told-nothing : (c : ℕ) → mostCentrals ≤ c → toldCentral c ≡ none
-unfolding toldCentral
-told-nothing c h = rw (le-ltb c mostCentrals h, toldCentral)
+pub told-nothing : (k n : ℕ) → k ≤ n → told k n ≡ none
+unfolding told
+told-nothing k n h = rw (le-ltb n k h, told)
 
--- a slot of the record is one module's, and one central's
-slot-apart : (p c q d : ℕ) → c < mostCentrals → d < mostCentrals → (p ≡ q → c ≡ d → ⊥) → useSlot p c ≡ useSlot q d → ⊥
-unfolding useSlot
-slot-apart p c q d hc hd n e = let s = slot-same mostCentrals p c q d hc hd e in n (s .0) (s .1)
-
-both-false : (s t : Bool) → (s ≡ true → t ≡ true → ⊥) → (s && t) ≡ false
-both-false true true n = absurd (n refl refl)
-both-false true false n = refl
-both-false false t n = refl
-
-module _ (used : List ℕ) (p c q d : ℕ) (hc : c < mostCentrals) (hd : d < mostCentrals) where
-  in-taking : useSlot p c < length used → inUse (taking used p c) q d ≡ cond (eqb q p && eqb d c) true (inUse used q d)
+module _ (used : List ℕ) (p q d : ℕ) (room : q < length used) (hd : d < mostCentrals) where
+  in-taking : (c : ℕ) → c < mostCentrals → inUse (taking used p c) q d ≡ cond (eqb q p && eqb d c) true (inUse used q d)
   unfolding inUse taking
-  in-taking room = go (ℕ-discrete q p) (ℕ-discrete d c)
-    where
-      other : (q ≡ p → d ≡ c → ⊥) → eqb (getD (set used (useSlot p c) 1) (useSlot q d) 0) 1 ≡ cond (eqb q p && eqb d c) true (eqb (getD used (useSlot q d) 0) 1)
-      other n =
-          rw (both-false (eqb q p) (eqb d c) (λ s t. n (eqb-true q p s) (eqb-true d c t)))
-          (ap (λ (b : ℕ). eqb b 1) (getD-set-other used (useSlot p c) (useSlot q d) 1 0 (slot-apart q d p c hd hc n)))
+  in-taking c hc = put-at used p c true q d room (central-bit hc) (central-bit hd)
 
-      go : Dec (q ≡ p) → Dec (d ≡ c) → eqb (getD (set used (useSlot p c) 1) (useSlot q d) 0) 1 ≡ cond (eqb q p && eqb d c) true (eqb (getD used (useSlot q d) 0) 1)
-      go (yes e) (yes f) = rw (eq-eqb q p e, eq-eqb d c f, e, f) (ap (λ (b : ℕ). eqb b 1) (getD-set-same used (useSlot p c) 1 0 room))
-      go (yes e) (no n) = other (λ s t. n t)
-      go (no n) f = other (λ s t. n s)
-
-module _ (used : List ℕ) (p a b q d : ℕ) (ha : a < mostCentrals) (hb : b < mostCentrals) (hd : d < mostCentrals)
-    (room-a : useSlot p a < length used) (room-b : useSlot p b < length used) where
-  in-swapping : inUse (swapping used p a b) q d ≡ cond (eqb q p) (inUse used q (exchange a b d)) (inUse used q d)
+  in-swapping : (a b : ℕ) → a < mostCentrals → b < mostCentrals → inUse (swapping used p a b) q d ≡ cond (eqb q p) (inUse used q (exchange a b d)) (inUse used q d)
   unfolding inUse swapping
-  in-swapping = go (ℕ-discrete q p)
+  in-swapping a b ha hb =
+      put-at (putAt used p a (bitAt used p b)) p b (bitAt used p a) q d (rw (length-put-at used p a (bitAt used p b)) room) (central-bit hb) (central-bit hd)
+      ∙ rw (put-at used p a (bitAt used p b) q d room (central-bit ha) (central-bit hd)) (go (ℕ-discrete q p) (ℕ-discrete d b) (ℕ-discrete d a))
     where
-      first : List ℕ
-      first = set used (useSlot p a) (getD used (useSlot p b) 0)
+      go : Dec (q ≡ p) → Dec (d ≡ b) → Dec (d ≡ a)
+          → cond (eqb q p && eqb d b) (bitAt used p a) (cond (eqb q p && eqb d a) (bitAt used p b) (bitAt used q d)) ≡ cond (eqb q p) (bitAt used q (exchange a b d)) (bitAt used q d)
+      go (no n) f g = rw (ne-eqb q p n)
+      go (yes e) (yes f) g = rw (e, eq-eqb p p refl, f, eq-eqb b b refl, exchange-second a b)
+      go (yes e) (no n) (yes g) = rw (eq-eqb q p e, ne-eqb d b n, e, g, eq-eqb a a refl, exchange-first a b)
+      go (yes e) (no n) (no m) = rw (eq-eqb q p e, ne-eqb d b n, ne-eqb d a m, exchange-other a b d (⊎-elim m n))
 
-      byte : ℕ
-      byte = getD (set first (useSlot p b) (getD used (useSlot p a) 0)) (useSlot q d) 0
-
-      here : q ≡ p → Dec (d ≡ b) → Dec (d ≡ a) → byte ≡ getD used (useSlot q (exchange a b d)) 0
-      here e (yes f) g = rw (e, f, exchange-second a b) (getD-set-same first (useSlot p b) (getD used (useSlot p a) 0) 0 (rw (length-set used (useSlot p a) (getD used (useSlot p b) 0)) room-b))
-      here e (no n) (yes g) =
-          getD-set-other first (useSlot p b) (useSlot q d) (getD used (useSlot p a) 0) 0 (slot-apart q d p b hd hb (λ s t. n t))
-          ∙ rw (e, g, exchange-first a b) (getD-set-same used (useSlot p a) (getD used (useSlot p b) 0) 0 room-a)
-      here e (no n) (no m) =
-          getD-set-other first (useSlot p b) (useSlot q d) (getD used (useSlot p a) 0) 0 (slot-apart q d p b hd hb (λ s t. n t))
-          ∙ getD-set-other used (useSlot p a) (useSlot q d) (getD used (useSlot p b) 0) 0 (slot-apart q d p a hd ha (λ s t. m t))
-          ∙ rw (exchange-other a b d (⊎-elim m n))
-
-      go : Dec (q ≡ p) → eqb byte 1 ≡ cond (eqb q p) (eqb (getD used (useSlot q (exchange a b d)) 0) 1) (eqb (getD used (useSlot q d) 0) 1)
-      go (yes e) = rw (eq-eqb q p e) (ap (λ (t : ℕ). eqb t 1) (here e (ℕ-discrete d b) (ℕ-discrete d a)))
-      go (no n) =
-          rw (ne-eqb q p n)
-          (ap (λ (t : ℕ). eqb t 1)
-          (getD-set-other first (useSlot p b) (useSlot q d) (getD used (useSlot p a) 0) 0 (slot-apart q d p b hd hb (λ s t. n s))
-          ∙ getD-set-other used (useSlot p a) (useSlot q d) (getD used (useSlot p b) 0) 0 (slot-apart q d p a hd ha (λ s t. n s))))
+-- The lowest bit of the free word is the least central that is free at both modules.
+pub free-first : (used : List ℕ) (p q free : ℕ) {c : ℕ} → Neither (getD used p 0) (getD used q 0) free → c ≡ least wordSize (hasBit free) → First mostCentrals (bothFree used p q) c
+unfolding bothFree inUse bitAt mostCentrals wordSize
+free-first used p q free {c} n e =
+    let f : First 32 (hasBit free) c = rw e (least-is 32 (hasBit free)) in
+    (f .0, (λ j l. sym (n j (omega (arith, f .0))) ∙ f .1 j l), (λ l. sym (n c l) ∙ f .2 l))
 
 -- ---- by sides and modules
 
@@ -107,43 +80,43 @@ number-same true false v w hv hw = ne-eqb (mostModules + v) w (λ e. omega arith
 number-same false true v w hv hw = ne-eqb v (mostModules + w) (λ e. omega arith)
 number-same false false v w hv hw = refl
 
-slot-below : (output : Bool) (v c : ℕ) → v < mostModules → c < mostCentrals → useSlot (moduleNumber output v) c < recordSize
-unfolding useSlot moduleNumber recordSize modulesOfBoth mostModules mostCentrals
-slot-below true v c hv hc = omega arith
-slot-below false v c hv hc = omega arith
+number-below : (output : Bool) (v : ℕ) → v < mostModules → moduleNumber output v < recordSize
+unfolding moduleNumber recordSize modulesOfBoth mostModules
+number-below true v l = omega arith
+number-below false v l = omega arith
 
 module _ (used : List ℕ) (size : length used ≡ recordSize) (s t : Bool) (v w x : ℕ) (hv : v < mostModules) (hw : w < mostModules) (hx : x < mostCentrals) where
   pub use-taking : (c : ℕ) → c < mostCentrals → useOf (taking used (moduleNumber t w) c) s v x ≡ cond (sameSide s t && eqb v w && eqb x c) true (useOf used s v x)
   unfolding useOf
   use-taking c hc =
-      in-taking used (moduleNumber t w) c (moduleNumber s v) x hc hx (rw size (slot-below t w c hw hc))
+      in-taking used (moduleNumber t w) (moduleNumber s v) x (rw size (number-below s v hv)) hx c hc
       ∙ ap (λ (b : Bool). cond (b && eqb x c) true (inUse used (moduleNumber s v) x)) (number-same s t v w hv hw)
 
   pub use-swapping : (a b : ℕ) → a < mostCentrals → b < mostCentrals
       → useOf (swapping used (moduleNumber t w) a b) s v x ≡ cond (sameSide s t && eqb v w) (useOf used s v (exchange a b x)) (useOf used s v x)
   unfolding useOf
   use-swapping a b ha hb =
-      in-swapping used (moduleNumber t w) a b (moduleNumber s v) x ha hb hx (rw size (slot-below t w a hw ha)) (rw size (slot-below t w b hw hb))
+      in-swapping used (moduleNumber t w) (moduleNumber s v) x (rw size (number-below s v hv)) hx a b ha hb
       ∙ ap (λ (e : Bool). cond e (inUse used (moduleNumber s v) (exchange a b x)) (inUse used (moduleNumber s v) x)) (number-same s t v w hv hw)
 
 pub taking-size : (used : List ℕ) (p c : ℕ) → length used ≡ recordSize → length (taking used p c) ≡ recordSize
 unfolding taking
-taking-size used p c e = length-set used (useSlot p c) 1 ∙ e
+taking-size used p c e = length-put-at used p c true ∙ e
 
 pub swapping-size : (used : List ℕ) (p a b : ℕ) → length used ≡ recordSize → length (swapping used p a b) ≡ recordSize
 unfolding swapping
 swapping-size used p a b e =
-    length-set (set used (useSlot p a) (getD used (useSlot p b) 0)) (useSlot p b) (getD used (useSlot p a) 0)
-    ∙ length-set used (useSlot p a) (getD used (useSlot p b) 0)
+    length-put-at (putAt used p a (bitAt used p b)) p b (bitAt used p a)
+    ∙ length-put-at used p a (bitAt used p b)
     ∙ e
 
 -- ---- the record of no calls, of one row more, and of another colouring of the same rows
 
 pub nothing-recorded : (side : Bool → ℕ → ℕ) (γ : ℕ → ℕ) → Recorded side γ 0 nothingUsed
-unfolding nothingUsed inUse isNone firstBelow
+unfolding nothingUsed inUse bitAt isNone firstBelow
 nothing-recorded side γ = record {
   size = length-replicate recordSize 0;
-  says = λ output v c hv hc. ap (λ (b : ℕ). eqb b 1) (getD-replicate recordSize (useSlot (moduleNumber output v) c) 0 0 (slot-below output v c hv hc));
+  says = λ output v c hv hc. rw (getD-replicate {A = ℕ} recordSize (moduleNumber output v) 0 0 (number-below output v hv)) (no-bit c);
 }
 
 pub taken-or : (t b : Bool) → cond t true (not b) ≡ not (cond t false b)

@@ -2,24 +2,26 @@
 --   Found p k o         == o is the least number below k that passes the test, or none does
 --   Picked order p o    == o is a central of the order that passes the test, or none does
 --   Standing f γ k v c o == o is a row below k that stands there, or the central is free there
---   found, picked, standing, free-iff == each search has its view
---   first-some, first-none, first-here, first-next, first-over == a search of the order whose answer is known, and one by rising centrals
+--   found, picked, standing, stands-iff, free-iff == each search has its view
+--   first-some, first-none, first-found, first-over == a search of the order whose answer is known, and one whose least is known
 --   rows-pass, rows-hold, rows-distinct == the rows that pass a test
-use mathlib.Core.Path.{_≡_, refl}
+use mathlib.Core.Path.{_≡_, refl, _∙_}
 use mathlib.Core.Logic.{_⊎_, inl, inr, _↔_}
 use mathlib.Core.Bool.{Bool, true, false}
 use mathlib.Core.Option.{Option, none, some}
 use mathlib.Core.List.{List, [], _∷_}
-use Prim.Native.Nat.{ℕ, zero, suc, _+_, _≤_, _<_}
+use Prim.Native.Nat.{ℕ, zero, suc, _≤_, _<_}
+use native.Mathlib.Numerals.{add-one}
 use native.Mathlib.Omega.{arith}
 use lib.Dec.{T, eqb, eqb→eq, eqb-refl}
 use Rattle.ground.specs.TruthLaws.{both-is}
 use Rattle.ground.specs.Numbers.{below-suc}
+use Rattle.ground.specs.Words.{First}
 use Rattle.ground.specs.Lists.{In, here, there, Distinct}
 use Rattle.ground.specs.ListsLaws.{not-in-nil}
 use Rattle.shelf.specs.declared.Network.{Network}
-use Rattle.shelf.specs.Order.{orderFrom}
-use Rattle.shelf.specs.OrderLaws.{order-here, order-end}
+use Rattle.shelf.specs.Order.{order, orderFrom}
+use Rattle.shelf.specs.OrderLaws.{order-start, order-here, order-end}
 use Rattle.choice.specs.Rule.{firstBelow, firstOf, stands, rowOn, isNone, isFree}
 use Rattle.choice.specs.Colouring.{Free, rowsBelow}
 
@@ -79,19 +81,26 @@ first-none order p = go (picked order p)
     go (got x m t) e c n u = let z : _≡_ {A = ℕ} 0 1 = cc in omega arith
     go (nothing m) e c n u = m c n u
 
--- the search goes through the order by rising centrals
-module _ (net : Network) (test : ℕ → Bool) (c : ℕ) where
-  pub first-here : c < net .m → test c ≡ true → firstOf (orderFrom net c) test ≡ some c
+-- The search goes through the order by rising centrals: where n is the least number below k that passes the test, it finds n if the
+-- shelf has that central.
+module _ (net : Network) (test : ℕ → Bool) where
+  first-here : (c : ℕ) → c < net .m → test c ≡ true → firstOf (orderFrom net c) test ≡ some c
   unfolding firstOf
-  first-here l t = rw (order-here net c l, firstOf, t)
+  first-here c l t = rw (order-here net c l, firstOf, t)
 
-  pub first-next : c < net .m → test c ≡ false → firstOf (orderFrom net c) test ≡ firstOf (orderFrom net (c + 1)) test
+  passed-over : (c : ℕ) → c ≤ net .m → ((j : ℕ) → j < c → test j ≡ false) → firstOf (order net) test ≡ firstOf (orderFrom net c) test
   unfolding firstOf
-  first-next l t = rw (order-here net c l, firstOf, t)
+  passed-over zero l none-yet = rw (order-start net)
+  passed-over (suc c) l none-yet =
+      passed-over c (omega arith) (λ j m. none-yet j (omega arith)) ∙ rw (order-here net c l, firstOf, none-yet c (omega arith), add-one c)
 
-  pub first-over : net .m ≤ c → firstOf (orderFrom net c) test ≡ none
-  unfolding firstOf
-  first-over l = rw (order-end net c l)
+  module _ (k n : ℕ) (least-passes : First k test n) where
+    pub first-found : net .m ≤ k → n < net .m → firstOf (order net) test ≡ some n
+    first-found enough l = passed-over n (omega arith) (least-passes .1) ∙ first-here n l (least-passes .2 (omega arith))
+
+    pub first-over : net .m ≤ n → firstOf (order net) test ≡ none
+    unfolding firstOf
+    first-over l = passed-over (net .m) (omega arith) (λ j m. least-passes .1 j (omega arith)) ∙ rw (order-end net (net .m) (omega arith))
 
 -- ---- a row of a module on a central
 
@@ -99,20 +108,20 @@ pub data Standing (f γ : ℕ → ℕ) (k v c : ℕ) : Option ℕ → Type 0 whe
   row : (e : ℕ) → e < k → f e ≡ v → γ e ≡ c → Standing f γ k v c (some e)
   free : Free f γ k v c → Standing f γ k v c none
 
-module _ (f γ : ℕ → ℕ) (k v c : ℕ) where
-  stands-iff : (i : ℕ) → T (stands f γ v c i) ↔ ((f i ≡ v) × (γ i ≡ c))
-  stands-iff i = (
-    (λ t. let r = both-is (eqb (f i) v) (eqb (γ i) c) .0 t in (eqb→eq (f i) v (r .0), eqb→eq (γ i) c (r .1))),
-    (λ p. rw (p .0, p .1) (both-is (eqb v v) (eqb c c) .1 (eqb-refl v, eqb-refl c))),
-  )
+pub stands-iff : (f γ : ℕ → ℕ) (v c i : ℕ) → T (stands f γ v c i) ↔ ((f i ≡ v) × (γ i ≡ c))
+stands-iff f γ v c i = (
+  (λ t. let r = both-is (eqb (f i) v) (eqb (γ i) c) .0 t in (eqb→eq (f i) v (r .0), eqb→eq (γ i) c (r .1))),
+  (λ p. rw (p .0, p .1) (both-is (eqb v v) (eqb c c) .1 (eqb-refl v, eqb-refl c))),
+)
 
+module _ (f γ : ℕ → ℕ) (k v c : ℕ) where
   -- the search for a row finds one that stands there, or the central is free there
   pub standing : Standing f γ k v c (rowOn f γ k v c)
   standing = go (found (stands f γ v c) k)
     where
       go : {o : Option ℕ} → Found (stands f γ v c) k o → Standing f γ k v c o
-      go (hit i h t m) = let p = stands-iff i .0 t in row i h (p .0) (p .1)
-      go (miss m) = free (λ q l x y. m q l (stands-iff q .1 (x, y)))
+      go (hit i h t m) = let p = stands-iff f γ v c i .0 t in row i h (p .0) (p .1)
+      go (miss m) = free (λ q l x y. m q l (stands-iff f γ v c q .1 (x, y)))
 
   -- the test `isFree` says what it should
   pub free-iff : T (isFree f γ k v c) ↔ Free f γ k v c

@@ -3,20 +3,21 @@
 //
 // The calls placed so far lie in one slice of rows of three bytes: input module, central, output module.
 ghost use mathlib.Core.Path.{_≡_};
-ghost use mathlib.Core.Bool.{true, false, not};
-ghost use Prim.Native.Nat.{_+_, _*_, _-_, _/_, _≤_, _<_};
+ghost use mathlib.Core.Bool.{true, false};
+ghost use Prim.Native.Nat.{_+_, _*_, _-_, _/_, _%_, _≤_, _<_};
 ghost use lib.Dec.{T};
 ghost use lib.ListN.{length, set};
+ghost use Rattle.ground.specs.Words.{putAt};
 ghost use Rattle.shelf.specs.Network.{mostModules, mostCentrals, mostCalls, withinLimits};
 ghost use Rattle.shelf.specs.Order.{order};
-ghost use Rattle.choice.specs.Rule.{at, firstOf};
+ghost use Rattle.choice.specs.Rule.{at, firstOf, rowOn};
 ghost use Rattle.choice.specs.Rows.{moduleIn, centralsOf};
-ghost use Rattle.choice.specs.Record.{modulesOfBoth, moduleNumber, useSlot, recordSize, nothingUsed, inUse, bothFree, taking, swapping, toldCentral, Recorded, Recordable};
-ghost use Rattle.choice.specs.Placement.{chainPlaces, besideOf, rowBeside, Mendable, Mended, Placeable, Placed, NoCommon};
+ghost use Rattle.choice.specs.Record.{modulesOfBoth, moduleNumber, nothingUsed, bothFree, taking, swapping, told, toldCentral, Recorded, Recordable};
+ghost use Rattle.choice.specs.Placement.{chainPlaces, Mendable, Mended, Placeable, Placed, NoCommon};
 use shelf::Network;
 
-// A byte for each module of each side and each central.
-pub const RECORD: usize = 2 * Network::MOST_MODULES * Network::MOST_CENTRALS;
+// A word for each module of each side, with a bit for each central.
+pub const RECORD: usize = 2 * Network::MOST_MODULES;
 
 // A place for each row of a chain: it meets no module twice, and that of the new call is met before its first row.
 pub const CHAIN: usize = 2 * Network::MOST_MODULES - 1;
@@ -29,7 +30,7 @@ pub fn place(
     net: Network,
     rows: &mut [u8],
     row: usize,
-    used: &mut [u8; RECORD],
+    used: &mut [u32; RECORD],
     chain: &mut [u16; CHAIN],
 ) -> usize
     requires { ⌜ Placeable net (now rows) row (now used) (now chain) ⌝ }
@@ -46,12 +47,13 @@ pub fn place(
     0
 }
 
-// The same where no central is free at both modules.
+// The same where no central is free at both modules. Let a be the first that is free at the input module, and b at the output module:
+// the new call stands on b until the first step of the chain gives it a.
 fn place_by_chain(
     net: Network,
     rows: &mut [u8],
     row: usize,
-    used: &mut [u8; RECORD],
+    used: &mut [u32; RECORD],
     chain: &mut [u16; CHAIN],
 ) -> usize
     requires { ⌜ Placeable net (now rows) row (now used) (now chain) × NoCommon net (now rows) row (now used) ⌝ }
@@ -61,9 +63,9 @@ fn place_by_chain(
     let output = module_number(rows, row, true);
     let a = first_common(net, used, input, input);
     let b = first_common(net, used, output, output);
-    rows[3 * row + 1] = a as u8;
+    rows[3 * row + 1] = b as u8;
     let start = 2 * net.r - 1;
-    let left = chain_from_output(rows, chain, row, b as u8, start);
+    let left = chain_from_output(rows, chain, row, a as u8, start);
     let moved = start - left;
     let end = module_number(rows, chain[left] as usize, moved % 2 == 0);
     swap(used, end, a, b);
@@ -72,27 +74,28 @@ fn place_by_chain(
     moved
 }
 
-// The chain from the output module of the row `from`, which has just taken its central: the call beside it there, on the same
-// central, takes the central `other`, and the chain goes on from that call's input module. `left` is the number of the modules
-// not yet met, of both sides: it falls with each call, and is never what ends a chain (specs/Met.antt). The rows are told in
-// `chain`, each at the place of the number left after it; what is told back is the number left at the end.
+// The chain from the output module of the row `from`, which takes `central` and has another one so far: the call that stands there on
+// `central` takes that other one, and the chain goes on from that call's input module. Where none stands there, the search tells the
+// last row, and the chain has ended. `left` is the number of the modules not yet met, of both sides: it falls with each call, and is
+// never what ends a chain (specs/Met.antt). The rows are told in `chain`, each at the place of the number left after it; what is told
+// back is the number left at the end. A chain has a frame on the stack for each of its calls, so nothing is kept in it for afterwards.
 fn chain_from_output(
     rows: &mut [u8],
     chain: &mut [u16; CHAIN],
     from: usize,
-    other: u8,
+    central: u8,
     left: usize,
 ) -> usize
-    requires { ⌜ Mendable true (now rows) from other left ⌝ }
-    ensures { λ end. ⌜ Mended true (now (rows .entry)) (now (rows .exit)) (now (chain .entry)) (now (chain .exit)) from other left end ⌝ }
+    requires { ⌜ Mendable true (now rows) from central left ⌝ }
+    ensures { λ end. ⌜ Mended true (now (rows .entry)) (now (rows .exit)) (now (chain .entry)) (now (chain .exit)) from central left end ⌝ }
 {
-    let row = row_beside(rows, from, true);
-    if row == from {
+    let row = row_on(rows, from, central, true);
+    let other = change(rows, from, central);
+    if rows.len() <= 3 * row + 3 {
         return left;
     }
-    let central = central_at(rows, from);
-    change(rows, chain, row, other, left - 1);
-    chain_from_input(rows, chain, row, central, left - 1)
+    tell(chain, left - 1, row);
+    chain_from_input(rows, chain, row, other, left - 1)
 }
 
 // The chain from the input module of the row `from`, in the same way, with the sides exchanged.
@@ -100,52 +103,56 @@ fn chain_from_input(
     rows: &mut [u8],
     chain: &mut [u16; CHAIN],
     from: usize,
-    other: u8,
+    central: u8,
     left: usize,
 ) -> usize
-    requires { ⌜ Mendable false (now rows) from other left ⌝ }
-    ensures { λ end. ⌜ Mended false (now (rows .entry)) (now (rows .exit)) (now (chain .entry)) (now (chain .exit)) from other left end ⌝ }
+    requires { ⌜ Mendable false (now rows) from central left ⌝ }
+    ensures { λ end. ⌜ Mended false (now (rows .entry)) (now (rows .exit)) (now (chain .entry)) (now (chain .exit)) from central left end ⌝ }
 {
-    let row = row_beside(rows, from, false);
-    if row == from {
+    let row = row_on(rows, from, central, false);
+    let other = change(rows, from, central);
+    if rows.len() <= 3 * row + 3 {
         return left;
     }
-    let central = central_at(rows, from);
-    change(rows, chain, row, other, left - 1);
-    chain_from_output(rows, chain, row, central, left - 1)
+    tell(chain, left - 1, row);
+    chain_from_output(rows, chain, row, other, left - 1)
 }
 
-// A call of the chain takes the other central, and is told at a place of `chain`.
-fn change(rows: &mut [u8], chain: &mut [u16; CHAIN], row: usize, other: u8, place: usize)
-    requires { ⌜ (3 * row + 3 ≤ length (now rows)) × (row < mostCalls) × (place < chainPlaces) ⌝ }
-    ensures rows { λ _. ⌜ now (rows .exit) ≡ set (now (rows .entry)) (3 * row + 1) other ⌝ }
-    ensures chain { λ _. ⌜ now (chain .exit) ≡ set (now (chain .entry)) place row ⌝ }
+// A row takes a central; told back is the one that it had.
+fn change(rows: &mut [u8], row: usize, central: u8) -> u8
+    requires { ⌜ 3 * row + 3 ≤ length (now rows) ⌝ }
+    ensures { λ other. ⌜ (now (rows .exit) ≡ set (now (rows .entry)) (3 * row + 1) central) × (other ≡ at (centralsOf (now (rows .entry))) row) ⌝ }
 {
-    rows[3 * row + 1] = other;
+    let other = central_at(rows, row);
+    rows[3 * row + 1] = central;
+    other
+}
+
+// A row is told at a place of `chain`.
+fn tell(chain: &mut [u16; CHAIN], place: usize, row: usize)
+    requires { ⌜ (place < chainPlaces) × (row < mostCalls) ⌝ }
+    ensures { λ _. ⌜ now (chain .exit) ≡ set (now (chain .entry)) place row ⌝ }
+{
     chain[place] = row as u16;
 }
 
-// The call beside the row `from` at its module of one side, on the same central, among the rows before the last; `from` itself
-// where there is none.
-fn row_beside(rows: &[u8], from: usize, output: bool) -> usize
-    requires { ⌜ 3 * from + 3 ≤ length (now rows) ⌝ }
-    ensures { λ row. ⌜ rowBeside (moduleIn (now (rows .entry)) output) (at (centralsOf (now (rows .entry)))) (length (now (rows .entry)) / 3 - 1) from ≡ besideOf from row ⌝ }
+// The call that stands on a central at the module of the row `from` of one side, among the rows before the last; the last row where
+// there is none.
+fn row_on(rows: &[u8], from: usize, central: u8, output: bool) -> usize
+    requires { ⌜ (3 * from + 3 ≤ length (now rows)) × (length (now rows) % 3 ≡ 0) ⌝ }
+    ensures { λ row. ⌜ (rowOn (moduleIn (now (rows .entry)) output) (at (centralsOf (now (rows .entry)))) (length (now (rows .entry)) / 3 - 1) (moduleIn (now (rows .entry)) output from) central ≡ told (length (now (rows .entry)) / 3 - 1) row) × (3 * row + 3 ≤ length (now (rows .entry))) ⌝ }
 {
-    let count = rows.len() / 3 - 1;
     let module = module_at(rows, from, output);
-    let central = central_at(rows, from);
     let mut row = 0;
-    while row < count {
+    while 3 * row + 3 < rows.len() {
         if module_at(rows, row, output) == module {
             if central_at(rows, row) == central {
-                if row != from {
-                    return row;
-                }
+                return row;
             }
         }
         row += 1;
     }
-    from
+    row
 }
 
 // The output module of a row, or its input module.
@@ -182,7 +189,7 @@ fn central_at(rows: &[u8], row: usize) -> u8
 }
 
 // Makes the record of no calls that of the first `count` rows, for any colouring of them.
-pub fn record_rows(used: &mut [u8; RECORD], rows: &[u8], count: usize)
+pub fn record_rows(used: &mut [u32; RECORD], rows: &[u8], count: usize)
     requires { ⌜ (now used ≡ nothingUsed) × Recordable (now rows) count ⌝ }
     ensures { λ _. ⌜ Recorded (moduleIn (now (rows .entry))) (at (centralsOf (now (rows .entry)))) count (now (used .exit)) ⌝ }
 {
@@ -194,7 +201,7 @@ pub fn record_rows(used: &mut [u8; RECORD], rows: &[u8], count: usize)
 }
 
 // The record of one row more: its central is taken at both its modules.
-fn record_row(used: &mut [u8; RECORD], rows: &[u8], row: usize)
+fn record_row(used: &mut [u32; RECORD], rows: &[u8], row: usize)
     requires { ⌜ Recordable (now rows) (row + 1) × Recorded (moduleIn (now rows)) (at (centralsOf (now rows))) row (now used) ⌝ }
     ensures { λ _. ⌜ Recorded (moduleIn (now (rows .entry))) (at (centralsOf (now (rows .entry)))) (row + 1) (now (used .exit)) ⌝ }
 {
@@ -203,55 +210,43 @@ fn record_row(used: &mut [u8; RECORD], rows: &[u8], row: usize)
     take(used, module_number(rows, row, true), central);
 }
 
-// The first of the shelf's own centrals that is free at both modules, by their numbers; MOST_CENTRALS where there is none.
-fn first_common(net: Network, used: &[u8; RECORD], p: usize, q: usize) -> usize
+// The first of the shelf's own centrals that is free at both modules, by their numbers; MOST_CENTRALS where there is none. It is the
+// lowest bit of the free word, which has a bit set for each central that is in use at neither.
+fn first_common(net: Network, used: &[u32; RECORD], p: usize, q: usize) -> usize
     requires { ⌜ (p < modulesOfBoth) × (q < modulesOfBoth) × T (withinLimits net) ⌝ }
     ensures { λ c. ⌜ firstOf (order net) (bothFree (now (used .entry)) p q) ≡ toldCentral c ⌝ }
 {
-    let mut central = 0;
-    while central < net.m {
-        if is_free(used, p, central) {
-            if is_free(used, q, central) {
-                return central;
-            }
-        }
-        central += 1;
+    let free = ground::neither(used[p], used[q]);
+    let central = ground::lowest_bit(free);
+    if central < net.m {
+        return central;
     }
     Network::MOST_CENTRALS
 }
 
-// Whether a central is free at a module.
-fn is_free(used: &[u8; RECORD], module: usize, central: usize) -> bool
-    requires { ⌜ («module» < modulesOfBoth) × (central < mostCentrals) ⌝ }
-    ensures { λ b. ⌜ b ≡ not (inUse (now (used .entry)) «module» central) ⌝ }
-{
-    used[slot(module, central)] != 1
-}
-
 // A central is taken at a module.
-fn take(used: &mut [u8; RECORD], module: usize, central: usize)
+fn take(used: &mut [u32; RECORD], module: usize, central: usize)
     requires { ⌜ («module» < modulesOfBoth) × (central < mostCentrals) ⌝ }
     ensures { λ _. ⌜ now (used .exit) ≡ taking (now (used .entry)) «module» central ⌝ }
 {
-    used[slot(module, central)] = 1;
+    put(used, module, central, true);
 }
 
 // Two centrals change places in what is recorded of a module: the one that was in use is free, and the other is in use.
-fn swap(used: &mut [u8; RECORD], module: usize, a: usize, b: usize)
+fn swap(used: &mut [u32; RECORD], module: usize, a: usize, b: usize)
     requires { ⌜ («module» < modulesOfBoth) × (a < mostCentrals) × (b < mostCentrals) ⌝ }
     ensures { λ _. ⌜ now (used .exit) ≡ swapping (now (used .entry)) «module» a b ⌝ }
 {
-    let first = slot(module, a);
-    let second = slot(module, b);
-    let kept = used[first];
-    used[first] = used[second];
-    used[second] = kept;
+    let first = ground::has_bit(used[module], a);
+    let second = ground::has_bit(used[module], b);
+    put(used, module, a, second);
+    put(used, module, b, first);
 }
 
-// Where a module and a central stand in the record.
-fn slot(module: usize, central: usize) -> usize
+// It is recorded whether a central is in use at a module.
+fn put(used: &mut [u32; RECORD], module: usize, central: usize, in_use: bool)
     requires { ⌜ («module» < modulesOfBoth) × (central < mostCentrals) ⌝ }
-    ensures { λ s. ⌜ (s ≡ useSlot «module» central) × (s < recordSize) ⌝ }
+    ensures { λ _. ⌜ now (used .exit) ≡ putAt (now (used .entry)) «module» central «in_use» ⌝ }
 {
-    module * Network::MOST_CENTRALS + central
+    used[module] = ground::put_bit(used[module], central, in_use);
 }

@@ -5,6 +5,8 @@ pub mod Below
 pub mod BelowLaws
 pub mod Lists
 pub mod ListsLaws
+pub mod Words
+pub mod WordsLaws
 pub mod Marks
 pub mod MarksLaws
 pub mod Bytes

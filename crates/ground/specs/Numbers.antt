@@ -2,18 +2,17 @@
 --   eqb-is, leb-is, ltb-is == a comparison that holds
 --   less-is, at-most-is == a comparison that fails
 --   equal-is            == a comparison that does not fail
---   pair-is             == two comparisons that hold: the pairs are the same
+--   pair-is, pair-same, pair-other == two comparisons that hold: the pairs are the same
 --   below-suc           == below suc k: k itself, or below k
 --   up-to               == what holds of every number below k, and of k, holds of every number below suc k
---   slot-same, slot-below == two numbers in one, a * w + b with b below w: it tells both, and is below top * w with a below top
-use mathlib.Core.Path.{_≡_, sym, ap, _∙_}
+use mathlib.Core.Path.{_≡_}
 use mathlib.Core.Logic.{_⊎_, inl, inr, _↔_, Iff·trans, Iff·and}
-use mathlib.Core.Bool.{not, _&&_}
-use Prim.Native.Nat.{ℕ, suc, _+_, _*_, _/_, _%_, _≤_, _<_}
-use native.Mathlib.Nat.{eq-or-lt-of-le, le-of-suc-le-suc, mod-eq-of-lt, mul-add-mod-self-right, mul-div-cancel, suc-mul, mul-le-mul-right}
+use mathlib.Core.Bool.{true, false, not, _&&_}
+use Prim.Native.Nat.{ℕ, suc, _≤_, _<_}
+use native.Mathlib.Nat.{eq-or-lt-of-le, le-of-suc-le-suc}
 use native.Mathlib.Omega.{arith}
 use lib.Dec.{T, eqb, leb, ltb, eqb→eq, eqb-refl, leb→le, le→leb, ltb→lt, lt→ltb, nleb→lt, nltb→le, not-T}
-use Rattle.ground.specs.TruthLaws.{both-is, holds-is}
+use Rattle.ground.specs.TruthLaws.{both-is, holds-is, same-test}
 
 pub eqb-is : (a b : ℕ) → T (eqb a b) ↔ (a ≡ b)
 eqb-is a b = (eqb→eq a b, λ e. rw e (eqb-refl b))
@@ -36,17 +35,14 @@ equal-is a b = Iff·trans (holds-is (eqb a b)) (eqb-is a b)
 pub pair-is : (a b c d : ℕ) → T (eqb a c && eqb b d) ↔ ((a ≡ c) × (b ≡ d))
 pair-is a b c d = Iff·trans (both-is (eqb a c) (eqb b d)) (Iff·and (eqb-is a c) (eqb-is b d))
 
+pub pair-same : {a b c d : ℕ} → a ≡ c → b ≡ d → (eqb a c && eqb b d) ≡ true
+pair-same {a} {b} {c} {d} e f = same-test (eqb a c && eqb b d) true (λ t. tt, λ t. pair-is a b c d .1 (e, f))
+
+pub pair-other : {a b c d : ℕ} → (a ≡ c → b ≡ d → ⊥) → (eqb a c && eqb b d) ≡ false
+pair-other {a} {b} {c} {d} n = same-test (eqb a c && eqb b d) false (λ t. let e = pair-is a b c d .0 t in n (e .0) (e .1), λ t. absurd t)
+
 pub below-suc : {i k : ℕ} → i < suc k → (i ≡ k) ⊎ (i < k)
 below-suc h = eq-or-lt-of-le (le-of-suc-le-suc h)
 
 pub up-to : (P : ℕ → Type 0) {k : ℕ} → ((i : ℕ) → i < k → P i) → P k → (i : ℕ) → i < suc k → P i
 up-to P f p i l = elim (below-suc l) [ inl e ↦ rw e p | inr b ↦ f i b ]
-
-pub slot-same : (w a b c d : ℕ) → b < w → d < w → a * w + b ≡ c * w + d → (a ≡ c) × (b ≡ d)
-slot-same w a b c d hb hd e =
-    let low : b ≡ d = sym (mod-eq-of-lt hb) ∙ sym (mul-add-mod-self-right a w b) ∙ ap (λ (t : ℕ). t % w) e ∙ mul-add-mod-self-right c w d ∙ mod-eq-of-lt hd in
-    let high : a * w ≡ c * w = omega arith in
-    (sym (mul-div-cancel a (omega arith)) ∙ ap (λ (t : ℕ). t / w) high ∙ mul-div-cancel c (omega arith), low)
-
-pub slot-below : (w top a b : ℕ) → a < top → b < w → a * w + b < top * w
-slot-below w top a b l m = omega (arith, suc-mul a w, mul-le-mul-right w l)

@@ -5,6 +5,7 @@ ghost use mathlib.Core.List.{[], _∷_};
 ghost use Prim.Native.Nat.{_+_, _≤_, _<_};
 ghost use lib.ListN.{length, getD};
 ghost use Rattle.ground.specs.Bytes.{highByte, lowByte, numberAt, Adds};
+ghost use Rattle.ground.specs.Words.{wordSize, hasBit, putBit, least, Neither};
 ghost use Rattle.ground.specs.Marks.{Marked};
 
 // The byte that stands at a position, as a number.
@@ -63,12 +64,43 @@ pub fn write_bytes(out: &mut [u8], at: usize, source: &[u8]) -> usize
     at + bytes::copy(source, &mut out[at..])
 }
 
-// Marks a slot of a record of use, and tells whether it was marked before.
-pub fn mark(used: &mut [u8], slot: usize) -> bool
-    requires { ⌜ slot < length (now used) ⌝ }
-    ensures { λ before. ⌜ Marked (now (used .entry)) (now (used .exit)) slot before ⌝ }
+// Whether a bit of a word is set.
+pub fn has_bit(word: u32, bit: usize) -> bool
+    requires { ⌜ bit < wordSize ⌝ }
+    ensures { λ set. ⌜ set ≡ hasBit word bit ⌝ }
 {
-    let before = used[slot] == 1;
-    used[slot] = 1;
-    before
+    (word >> bit) % 2 == 1
+}
+
+// The word with a bit set, or cleared; the others are kept.
+pub fn put_bit(word: u32, bit: usize, set: bool) -> u32
+    requires { ⌜ bit < wordSize ⌝ }
+    ensures { λ w. ⌜ w ≡ putBit word bit set ⌝ }
+{
+    let alone = 1 << bit;
+    if set { word | alone } else { word & !alone }
+}
+
+// The word of the bits that neither word has set.
+pub fn neither(first: u32, second: u32) -> u32
+    ensures { λ word. ⌜ Neither first second word ⌝ }
+{
+    !(first | second)
+}
+
+// The lowest bit that is set; the number of bits where none is.
+pub fn lowest_bit(word: u32) -> usize
+    ensures { λ c. ⌜ c ≡ least wordSize (hasBit word) ⌝ }
+{
+    u32::trailing_zeros(word) as usize
+}
+
+// Marks a bit of a word in a record of use, and tells whether it was marked before.
+pub fn mark(used: &mut [u32], at: usize, bit: usize) -> bool
+    requires { ⌜ (at < length (now used)) × (bit < wordSize) ⌝ }
+    ensures { λ before. ⌜ Marked (now (used .entry)) (now (used .exit)) at bit before ⌝ }
+{
+    let word = used[at];
+    used[at] = put_bit(word, bit, true);
+    has_bit(word, bit)
 }

@@ -60,7 +60,7 @@ fn place_and_write(net: Network, calls: &[u8], rows: &mut [u8]) -> usize
     ensures settings { λ moved. ⌜ now (rows .exit) ≡ plannedSettings net (now (calls .entry)) ⌝ }
     ensures moved { λ moved. ⌜ moved ≡ plannedMoved net (now (calls .entry)) ⌝ }
 {
-    let mut used = [0u8; choice::RECORD];
+    let mut used = [0u32; choice::RECORD];
     let mut chain = [0u16; choice::CHAIN];
     let moved = place_rest(net, calls, rows, 0, &mut used, &mut chain);
     write_wavelengths(net.cycle(), rows);
@@ -127,7 +127,7 @@ pub fn place_rest(
     calls: &[u8],
     rows: &mut [u8],
     first: usize,
-    used: &mut [u8; choice::RECORD],
+    used: &mut [u32; choice::RECORD],
     chain: &mut [u16; choice::CHAIN],
 ) -> usize
     requires { ⌜ Ready net (now calls) (now rows) first (now used) (now chain) ⌝ }

@@ -1,6 +1,7 @@
 -- Laws of the network's record. Floors above use the cycle, the shelf's own wavelengths and centrals by these alone.
 --   InLimits net       == n, m, r and W within their limits, one by one, and limits-are that this is what the test says
 --   modules-in-cycle, centrals-in-cycle, cycle-most == the cycle has room for every module and every central, and is at most 64
+--   channel-bit, central-bit == a word has a bit for every channel of a module, and for every central
 --   sizes-in-limits    == of three sizes alone just these are tested: 1 is then given as before there was W
 --   least-cycle-sizes  == a network whose W is the larger of r and m is that of its three sizes, and sizes-least-cycle that these have it
 --   own-wavelength-is  == a wavelength is the shelf's own where it is below the cycle
@@ -19,6 +20,7 @@ use lib.Dec.{T, leb, eqb-refl}
 use Rattle.ground.specs.Truth.{all}
 use Rattle.ground.specs.TruthLaws.{both-is, all-is}
 use Rattle.ground.specs.Numbers.{eqb-is, leb-is, ltb-is}
+use Rattle.ground.specs.Words.{wordSize}
 use Rattle.shelf.specs.declared.Network.{Network}
 use Rattle.shelf.specs.declared.Sized.{Sized}
 use Rattle.shelf.specs.declared.Sized.the-variants.{Made, Refused}
@@ -132,6 +134,14 @@ sizes-least-cycle n m r = eqb-refl (leastCycle m r)
 pub least-cycle-sizes : (net : Network) → T (hasLeastCycle net) → net ≡ ofSizes (net .n) (net .m) (net .r)
 unfolding hasLeastCycle ofSizes cycle
 least-cycle-sizes net h = λ t. record { n = net .n; m = net .m; r = net .r; w = eqb-is (net .w) (leastCycle (net .m) (net .r)) .0 h t }
+
+pub channel-bit : {c : ℕ} → c < mostChannels → c < wordSize
+unfolding mostChannels wordSize
+channel-bit l = omega arith
+
+pub central-bit : {c : ℕ} → c < mostCentrals → c < wordSize
+unfolding mostCentrals wordSize
+central-bit l = omega arith
 
 -- two answers that satisfy a constructor's guarantee are the same
 pub one-answer : (net : Network) (s s′ : Sized) → Built net s → Built net s′ → (s ≡ s′) × (toldBy s ≡ toldBy s′)

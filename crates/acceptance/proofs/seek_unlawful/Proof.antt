@@ -5,11 +5,10 @@ use mathlib.Core.Bool.{true, false}
 use Prim.Native.Nat.{_≤_, _-_}
 use native.Mathlib.Nat.{le-antisymm}
 use native.Mathlib.Omega.{arith}
-use borrow.Author.Needs.{needs}
 use lib.ListN.{length}
 use Rattle.ground.specs.Marks.{blank, marks}
 use Rattle.ground.specs.MarksLaws.{length-marks}
-use Rattle.shelf.specs.Network.{mostModules, mostCentrals}
+use Rattle.shelf.specs.Network.{mostModules}
 use Rattle.shelf.specs.Rows.{rowCount}
 use Rattle.calls.specs.Verdict.{passed, seekRows}
 use Rattle.acceptance.specs.Acceptance.{rowVerdict, unlawfulRow}
@@ -28,7 +27,7 @@ abbrev μ-loop : tie.MeasureT-loop
 μ-loop net calls settings count inputs₀ outputs₀ row₀ inputs outputs row = count - row
 
 loop-holds : tie.Need-loop-holds Inv-loop μ-loop
-unfolding seekRows marks blank mostModules mostCentrals
+unfolding seekRows marks blank mostModules
 loop-holds c = (omega arith, refl, refl, refl)
 
 -- The places of a turn: the row as it was read, past 9 to 11, past 12. From each the way leads back to the one before it.
@@ -39,10 +38,10 @@ abbrev Entry : tie.At-loop Inv-loop μ-loop → tie.Start Inv-loop μ-loop
 Entry c = c .before .before .before
 
 abbrev Light : tie.After-mark Inv-loop μ-loop → tie.Else1 Inv-loop μ-loop
-Light c = c .before .before .before .before
+Light c = c .before .before
 
 abbrev Input : tie.After-mark2 Inv-loop μ-loop → tie.Else2 Inv-loop μ-loop
-Input c = c .before .before .before .before
+Input c = c .before .before
 
 at-requires-2 : tie.Need-at-requires-2 Inv-loop μ-loop
 unfolding rowCount
@@ -77,17 +76,16 @@ returns : tie.Need-returns Inv-loop μ-loop
 returns c = light-refuses (judged (c .before .before)) (c .if1 .taken)
 
 slice-aggregate-mark : tie.Need-slice-aggregate-mark Inv-loop μ-loop
-unfolding mostModules mostCentrals
-slice-aggregate-mark c = sym (ap length (Head (c .before .before .before) .loop .inv .1) ∙ length-marks _ _ _ _ _)
+unfolding mostModules
+slice-aggregate-mark c = sym (ap length (Head (c .before .before .before) .loop .inv .1) ∙ length-marks _ _ _ _)
 
 mark-requires : tie.Need-mark-requires Inv-loop μ-loop
-unfolding mostCentrals
 mark-requires c κs =
-    let light = c .before .before .before in
-    rw (Head (light .before .before) .loop .inv .1, length-marks) (pair-room (judged (light .before .before)) (light .if1 .left) false)
+    let light = c .before in
+    let room = pair-room (judged (light .before .before)) (light .if1 .left) false in
+    (rw (Head (light .before .before) .loop .inv .1, length-marks) (room .0), room .1)
 
 returns-2 : tie.Need-returns-2 Inv-loop μ-loop
-unfolding mostCentrals
 returns-2 c =
     let first = c .before .before in
     let light = Light first in
@@ -95,17 +93,16 @@ returns-2 c =
     twelve j (light .if1 .left) (pair-tells j (light .if1 .left) false (Head (light .before .before) .loop .inv .1) (first .mark .ensures) .0) (c .if2 .taken)
 
 slice-aggregate-mark-2 : tie.Need-slice-aggregate-mark-2 Inv-loop μ-loop
-unfolding mostModules mostCentrals
-slice-aggregate-mark-2 c = sym (ap length (Head (Light (c .before .before .before) .before .before) .loop .inv .2) ∙ length-marks _ _ _ _ _)
+unfolding mostModules
+slice-aggregate-mark-2 c = sym (ap length (Head (Light (c .before .before .before) .before .before) .loop .inv .2) ∙ length-marks _ _ _ _)
 
 mark-requires-2 : tie.Need-mark-requires-2 Inv-loop μ-loop
-unfolding mostCentrals
 mark-requires-2 c κs =
-    let light = Light (c .before .before .before .before .before) in
-    rw (Head (light .before .before) .loop .inv .2, length-marks) (pair-room (judged (light .before .before)) (light .if1 .left) true)
+    let light = Light (c .before .before .before) in
+    let room = pair-room (judged (light .before .before)) (light .if1 .left) true in
+    (rw (Head (light .before .before) .loop .inv .2, length-marks) (room .0), room .1)
 
 returns-3 : tie.Need-returns-3 Inv-loop μ-loop
-unfolding mostCentrals
 returns-3 c =
     let second = c .before .before in
     let first = Input second .before .before in
@@ -118,7 +115,6 @@ add-row : tie.Need-add-row Inv-loop μ-loop
 add-row c = omega (arith, Entry (Head (Light (Input (c .before .before) .before .before) .before .before)) .good .1 .0 .0)
 
 loop-again : tie.Need-loop-again Inv-loop μ-loop
-unfolding mostCentrals
 loop-again c =
     let second = c .before .before in
     let first = Input second .before .before in
@@ -136,6 +132,5 @@ returns-4 c = let q = le-antisymm (c .before .loop .inv .0) (c .loop-test .left)
 pub seek-unlawful-spec : {M : Type 1} → statement M
 seek-unlawful-spec =
     tie.close
-    (tie.spec Inv-loop μ-loop loop-holds (λ c κs. omega arith) at-requires-2 judge-light-requires returns slice-aggregate-mark (λ c. search needs)
-    (λ c. search needs) mark-requires returns-2 slice-aggregate-mark-2 (λ c. search needs) (λ c. search needs) mark-requires-2 returns-3 add-row
-    (λ c. omega arith) loop-again returns-4)
+    (tie.spec Inv-loop μ-loop loop-holds (λ c κs. omega arith) at-requires-2 judge-light-requires returns slice-aggregate-mark mark-requires returns-2
+    slice-aggregate-mark-2 mark-requires-2 returns-3 add-row (λ c. omega arith) loop-again returns-4)

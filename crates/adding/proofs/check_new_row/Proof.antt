@@ -66,11 +66,10 @@ past-5 : (c : tie.Else1) (v : Verdict) → v ≡ inTurn (From-6 (Past-5 c)) → 
 unfolding newRowChecks
 past-5 c v = test-goes-on 5 _ _ _ (sym (outside-here (c .before)) ∙ c .if1 .left)
 
-own : (c : tie.Else1) → outside (Past-5 c .args .net) (Table (Past-5 c)) (K (Past-5 c)) ≡ false
-own c = sym (outside-here (c .before)) ∙ c .if1 .left
-
 inlet-here : (c : tie.After-has-point) → let s = Past-5 (c .before .before) in c .has-point .result ≡ pointUsed (Table s) false (K s)
-inlet-here c = point-new (Past-5 (c .before .before) .pre) (own (c .before .before)) false (c .before .point-at .ensures) (c .has-point .ensures)
+inlet-here c =
+    let s = Past-5 (c .before .before) in
+    point-new (Calls s) (Call s) (s .pre .whole) false (c .before .point-at .ensures) (c .has-point .ensures)
 
 returns-2 : tie.Need-returns-2
 unfolding rowCount
@@ -81,8 +80,8 @@ past-6 c v f = past-5 (c .before .before .before) v (test-goes-on 6 _ _ _ (sym (
 
 outlet-here : (c : tie.After-has-point2) → let s = Past-6 (c .before .before) in c .has-point2 .result ≡ pointUsed (Table s) true (K s)
 outlet-here c =
-    let past = c .before .before in
-    point-new (Past-6 past .pre) (own (past .before .before .before)) true (c .before .point-at2 .ensures) (c .has-point2 .ensures)
+    let s = Past-6 (c .before .before) in
+    point-new (Calls s) (Call s) (s .pre .whole) true (c .before .point-at2 .ensures) (c .has-point2 .ensures)
 
 returns-3 : tie.Need-returns-3
 unfolding rowCount

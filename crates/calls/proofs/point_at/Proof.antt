@@ -1,13 +1,13 @@
--- `calls::point_at` meets its contract: the point has a place in the record, so its number is small, and it is the slot.
+-- `calls::point_at` meets its contract: the two numbers of one side.
 use borrow.Author.Needs.{needs}
-use Rattle.ground.specs.Marks.{slot}
-use Rattle.shelf.specs.Network.{mostChannels}
 use Rattle.calls.proofs.point_at.Statement.{statement}
 use Rattle.calls.proofs.point_at.Tie as tie
 
+returns : tie.Need-returns
+returns c = let read = c .before .at .ensures in rw (c .if1 .taken) (record { module-is = read .output-module; channel-is = read .output-channel })
+
+returns-2 : tie.Need-returns-2
+returns-2 c = let read = c .before .at .ensures in rw (c .if1 .left) (record { module-is = read .input-module; channel-is = read .input-channel })
+
 pub point-at-spec : {M : Type 1} → statement M
-unfolding slot mostChannels
-point-at-spec =
-    tie.close
-    (tie.spec (λ c κs. search needs) (λ c. search needs) (λ c. search needs) (λ c. search needs) (λ c. search needs)
-    (λ c. rw (c .before .before .if1 .taken) (search needs)) (λ c. rw (c .before .before .if1 .left) (search needs)))
+point-at-spec = tie.close (tie.spec (λ c κs. search needs) returns returns-2)

@@ -6,8 +6,9 @@ use native.Mathlib.Omega.{arith}
 use lib.ListN.{length}
 use Rattle.ground.specs.Below.{usedEarlier}
 use Rattle.ground.specs.Marks.{blank, marks}
-use Rattle.ground.specs.MarksLaws.{length-marks, slot-room}
-use Rattle.shelf.specs.Network.{mostChannels, mostModules}
+use Rattle.ground.specs.MarksLaws.{length-marks}
+use Rattle.shelf.specs.Network.{mostModules}
+use Rattle.shelf.specs.NetworkLaws.{channel-bit}
 use Rattle.shelf.specs.Rows.{rowCount}
 use Rattle.calls.specs.Verdict.{passed, refusedIf, seekRows}
 use Rattle.calls.specs.VerdictLaws.{seek-bad, seek-good, seek-end}
@@ -26,19 +27,20 @@ abbrev μ-loop : tie.MeasureT-loop
 μ-loop calls outlets number count used₀ row₀ used row = count - row
 
 loop-holds : tie.Need-loop-holds Inv-loop μ-loop
-unfolding seekRows marks blank mostChannels mostModules
+unfolding seekRows marks blank mostModules
 loop-holds c = (omega arith, refl, refl)
 
 slice-aggregate-mark : tie.Need-slice-aggregate-mark Inv-loop μ-loop
-unfolding mostChannels mostModules
-slice-aggregate-mark c = sym (ap length (c .before .before .loop .inv .1) ∙ length-marks _ _ _ _ _)
+unfolding mostModules
+slice-aggregate-mark c = sym (ap length (c .before .before .before .loop .inv .1) ∙ length-marks _ _ _ _)
 
 mark-requires : tie.Need-mark-requires Inv-loop μ-loop
 unfolding rowCount
 mark-requires c κs =
     let turn = c .before .before in
     let fits = turn .before .before .before .pre .1 _ (turn .loop-test .taken) in
-    rw (turn .before .loop .inv .1, length-marks) (slot-room _ _ _ _ _ (c .point-at .ensures) (fits .own-module) (fits .own-channel))
+    let read = c .before .point-at .ensures in
+    (rw (turn .before .loop .inv .1, length-marks, read .module-is) (fits .own-module), rw (read .channel-is) (channel-bit (fits .own-channel)))
 
 -- a turn, and what marking the row's point tells in it
 abbrev Turn : tie.After-mark Inv-loop μ-loop → tie.In-loop Inv-loop μ-loop
@@ -53,7 +55,7 @@ Entry c = Head c .before .before
 told : (c : tie.After-mark Inv-loop μ-loop) → (c .mark .result ≡ pointUsed (Entry c .args .calls .now) (Entry c .args .outlets) (Head c .loop .row))
     × (c .mark .last .0 ≡ pointMarks (Entry c .args .calls .now) (Entry c .args .outlets) (Head c .loop .row + 1))
 unfolding rowCount
-told c = point-tells _ _ _ (Entry c .pre .1) (Turn c .loop-test .taken) (Head c .loop .inv .1) (c .before .point-at .ensures) (c .mark .ensures)
+told c = point-tells _ _ _ (Entry c .pre .1) (Turn c .loop-test .taken) (Head c .loop .inv .1) (c .before .before .point-at .ensures) (c .mark .ensures)
 
 returns : tie.Need-returns Inv-loop μ-loop
 unfolding pointTwice rowCount
@@ -74,5 +76,5 @@ returns-2 c = seek-end _ (usedEarlier _ _) _ _ (c .before .loop .inv .0) (c .loo
 pub seek-repeat-spec : {M : Type 1} → statement M
 seek-repeat-spec =
     tie.close
-    (tie.spec Inv-loop μ-loop loop-holds slice-aggregate-mark (λ c κs. omega arith) mark-requires returns (λ c. omega arith) (λ c. omega arith)
+    (tie.spec Inv-loop μ-loop loop-holds (λ c κs. omega arith) slice-aggregate-mark mark-requires returns (λ c. omega arith) (λ c. omega arith)
     loop-again returns-2)

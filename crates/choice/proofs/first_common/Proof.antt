@@ -1,73 +1,36 @@
--- `choice::first_common` meets its contract. The loop's invariant: what is left to search has the same first.
-use mathlib.Core.Path.{_≡_, refl, sym, _∙_}
-use mathlib.Core.Logic.{⊎-elim}
-use mathlib.Core.Bool.{Bool, true, false, not, _&&_}
-use Prim.Native.Nat.{_≤_, _<_, _-_}
+-- `choice::first_common` meets its contract: the lowest bit of the free word is the first central of the order that is free at both
+-- modules, if the shelf has it.
+use mathlib.Core.Path.{sym, _∙_}
 use native.Mathlib.Omega.{arith}
-use Rattle.shelf.specs.Network.{mostCentrals}
+use borrow.Author.Needs.{needs}
+use Rattle.ground.specs.Words.{First}
+use Rattle.shelf.specs.Network.{mostModules, mostCentrals}
 use Rattle.shelf.specs.NetworkLaws.{limits-are}
-use Rattle.shelf.specs.Order.{order, orderFrom}
-use Rattle.shelf.specs.OrderLaws.{order-start}
-use Rattle.choice.specs.Rule.{firstOf}
-use Rattle.choice.specs.Record.{inUse, bothFree}
-use Rattle.choice.specs.Search.{first-here, first-next, first-over}
-use Rattle.choice.specs.RecordLaws.{told-there, told-nothing}
+use Rattle.choice.specs.Record.{modulesOfBoth, bothFree}
+use Rattle.choice.specs.Search.{first-found, first-over}
+use Rattle.choice.specs.RecordLaws.{told-there, told-nothing, free-first}
 use Rattle.choice.proofs.first_common.Statement.{statement}
 use Rattle.choice.proofs.first_common.Tie as tie
 
-abbrev Inv-loop : tie.InvT-loop
-Inv-loop net used p q central₀ central = (central ≤ net .m) × (firstOf (order net) (bothFree used p q) ≡ firstOf (orderFrom net central) (bothFree used p q))
+abbrev Entry : tie.After-lowest-bit → tie.Start
+Entry c = c .before .before .before .before
 
-abbrev μ-loop : tie.MeasureT-loop
-μ-loop net used p q central₀ central = net .m - central
+found : (c : tie.After-lowest-bit) → First mostCentrals (bothFree (Entry c .args .used .now) (Entry c .args .p) (Entry c .args .q)) (c .lowest-bit .result)
+found c = free-first (Entry c .args .used .now) (Entry c .args .p) (Entry c .args .q) (c .before .neither .result) (c .before .neither .ensures) (c .lowest-bit .ensures)
 
-loop-holds : tie.Need-loop-holds Inv-loop μ-loop
-loop-holds c = (omega arith, rw (order-start (c .args .net)))
-
--- a central that is tried is one that a record has room for
-abbrev Entry : tie.Then1 Inv-loop μ-loop → tie.Start Inv-loop μ-loop
-Entry c = c .before .before .before
-
-small : (c : tie.Then1 Inv-loop μ-loop) → c .before .before .loop .central < mostCentrals
-small c = let l = limits-are _ .0 (Entry c .pre .2) in omega arith
-
-is-free-requires : tie.Need-is-free-requires Inv-loop μ-loop
-is-free-requires c κs = (Entry c .pre .0, small c)
-
-is-free-requires-2 : tie.Need-is-free-requires-2 Inv-loop μ-loop
-is-free-requires-2 c κs = (Entry (c .before .before) .pre .1, small (c .before .before))
-
-returns : tie.Need-returns Inv-loop μ-loop
-unfolding bothFree
+returns : tie.Need-returns
 returns c =
-    let s = Entry (c .before .before .before .before) .args in
-    c .before .before .before .before .before .before .loop .inv .1
-    ∙ first-here _ (bothFree (s .used .now) (s .p) (s .q)) _ (c .before .before .before .before .if1 .taken) (rw (sym (c .before .before .before .is-free .ensures) ∙ c .before .before .if2 .taken, sym (c .before .is-free2 .ensures) ∙ c .if3 .taken))
-    ∙ sym (told-there _ (small (c .before .before .before .before)))
+    let s = c .before .before in
+    let l = limits-are _ .0 (Entry s .pre .2) in
+    first-found _ _ mostCentrals _ (found s) (l .most-m) (c .if1 .taken) ∙ sym (told-there mostCentrals _ (omega (arith, l .most-m)))
 
--- not free at the second module
-not-second : (s : Bool) {t : Bool} → t ≡ false → (s && t) ≡ false
-not-second true e = e
-not-second false e = refl
-
-loop-again : tie.Need-loop-again Inv-loop μ-loop
-unfolding bothFree
-loop-again c =
-    let s = Entry (c .before .before) .args in (
-      omega arith,
-      c .before .before .before .before .loop .inv .1
-          ∙ first-next _ (bothFree (s .used .now) (s .p) (s .q)) _ (c .before .before .if1 .taken)
-          (⊎-elim
-          (λ w. not-second (not (inUse (s .used .now) (s .p) _)) (sym (w .1 .ensures) ∙ w .2 .left))
-          (λ w. rw (sym (c .before .is-free .ensures) ∙ w .left))
-          (c .if2 .came)),
-    )
-
-returns-2 : tie.Need-returns-2 Inv-loop μ-loop
+returns-2 : tie.Need-returns-2
 unfolding mostCentrals
-returns-2 c = c .before .before .loop .inv .1 ∙ first-over _ (bothFree _ _ _) _ (c .if1 .left) ∙ sym (told-nothing _ (omega arith))
+returns-2 c = first-over _ _ mostCentrals _ (found (c .before .before)) (c .if1 .left) ∙ sym (told-nothing mostCentrals _ (omega arith))
 
 pub first-common-spec : {M : Type 1} → statement M
+unfolding modulesOfBoth mostModules
 first-common-spec =
     tie.close
-    (tie.spec Inv-loop μ-loop loop-holds is-free-requires is-free-requires-2 returns (λ c. omega arith) (λ c. omega arith) loop-again returns-2)
+    (tie.spec (λ c. record { fits = omega (arith, c .pre .0) }) (λ c. omega (arith, c .pre .0)) (λ c. record { fits = omega (arith, c .before .pre .1) })
+    (λ c. omega (arith, c .before .pre .1)) (λ c κs. search needs) (λ c κs. search needs) returns returns-2)

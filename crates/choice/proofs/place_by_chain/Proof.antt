@@ -44,7 +44,7 @@ searched c = record {
 
 cast-rows : tie.Need-cast-rows
 unfolding mostCentrals
-cast-rows c = record { fits = omega (arith, small-a (searched c)) }
+cast-rows c = record { fits = omega (arith, small-b (searched c)) }
 
 slice-write-rows : tie.Need-slice-write-rows
 slice-write-rows c = omega (arith, Entry (Modules c) .pre .0 .whole)
@@ -61,7 +61,7 @@ Found c = c .before .before .before
 
 cast-chain-from-output : tie.Need-cast-chain-from-output
 unfolding mostCentrals
-cast-chain-from-output c = record { fits = omega (arith, small-b (searched (Found c))) }
+cast-chain-from-output c = record { fits = omega (arith, small-a (searched (Found c))) }
 
 chain-from-output-requires : tie.Need-chain-from-output-requires
 chain-from-output-requires c κs = mendable (searched (Found c))

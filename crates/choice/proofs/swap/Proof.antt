@@ -1,33 +1,24 @@
--- `choice::swap` meets its contract: two bytes change places.
+-- `choice::swap` meets its contract: two bits of a word change places.
 use native.Mathlib.Omega.{arith}
-use Rattle.shelf.specs.Network.{mostModules, mostCentrals}
-use Rattle.choice.specs.Record.{modulesOfBoth, recordSize, swapping}
 use borrow.Author.Needs.{needs}
+use Rattle.ground.specs.Words.{bitAt}
+use Rattle.shelf.specs.Network.{mostModules}
+use Rattle.shelf.specs.NetworkLaws.{central-bit}
+use Rattle.choice.specs.Record.{modulesOfBoth, swapping}
 use Rattle.choice.proofs.swap.Statement.{statement}
 use Rattle.choice.proofs.swap.Tie as tie
 
-element-copy-out-kept : tie.Need-element-copy-out-kept
-unfolding recordSize modulesOfBoth mostModules mostCentrals
-element-copy-out-kept c = omega arith
-
-element-copy-out-used : tie.Need-element-copy-out-used
-unfolding recordSize modulesOfBoth mostModules mostCentrals
-element-copy-out-used c = omega arith
-
-element-write-used : tie.Need-element-write-used
-unfolding recordSize modulesOfBoth mostModules mostCentrals
-element-write-used c = omega arith
-
-element-write-used-2 : tie.Need-element-write-used-2
-unfolding recordSize modulesOfBoth mostModules mostCentrals
-element-write-used-2 c = omega arith
-
 returns : tie.Need-returns
-unfolding swapping
-returns c = rw (c .before .before .slot2 .ensures .0, c .before .before .before .slot .ensures .0)
+unfolding swapping bitAt
+returns c =
+    let first = c .before .before in
+    let read = first .before .before in
+    rw (c .put2 .ensures, first .put .ensures, read .has-bit2 .ensures, read .before .before .has-bit .ensures)
 
 pub swap-spec : {M : Type 1} → statement M
+unfolding modulesOfBoth mostModules
 swap-spec =
     tie.close
-    (tie.spec (λ c κs. search needs) (λ c κs. search needs) element-copy-out-kept element-copy-out-used element-write-used element-write-used-2
-    returns)
+    (tie.spec (λ c. record { fits = omega (arith, c .pre .0) }) (λ c. omega (arith, c .pre .0)) (λ c κs. central-bit (c .before .pre .1))
+    (λ c. record { fits = omega (arith, c .before .before .pre .0) }) (λ c. omega (arith, c .before .before .pre .0)) (λ c κs. central-bit (c .before .before .before .pre .2))
+    (λ c κs. search needs) (λ c κs. search needs) returns)
