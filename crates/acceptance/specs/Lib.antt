@@ -1,4 +1,1 @@
 pub mod Acceptance
-pub mod Exactly
-pub mod Tests
-pub mod Pairs

@@ -25,10 +25,10 @@ use Rattle.calls.specs.declared.Point.{Point}
 use Rattle.calls.specs.Table.{outside, outside_call, point_used, PointRead, Inside, InOrder}
 use Rattle.calls.specs.TableLaws.{outside_read}
 use Rattle.choice.specs.Colouring.{at_module, Fits}
-use Rattle.choice.specs.Count.{count_here}
-use Rattle.choice.specs.Agree.{Agree, count_agree}
+use Rattle.choice.proofs.Count.{count_here}
+use Rattle.choice.proofs.Agree.{Agree, count_agree}
 use Rattle.planner.specs.Planner.{overfull}
-use Rattle.planner.specs.Overfull.{fits_is}
+use Rattle.planner.proofs.Overfull.{fits_is}
 
 module _ (calls call : List ℕ) (whole : length calls ≡ 4 * row_count calls) where
   abbrev K : ℕ

@@ -8,9 +8,9 @@ use Rattle.ground.specs.Lists.{In, Distinct}
 use Rattle.ground.specs.ListsLaws.{not_in_nil, few_below}
 use Rattle.choice.specs.Rule.{at, exchange, exchanged, step, Step}
 use Rattle.choice.specs.Colouring.{Fine}
-use Rattle.choice.specs.Chain.{Two}
-use Rattle.choice.specs.Exchange.{Change, changed, kept, exchange_first, exchange_second, length_exchanged}
-use Rattle.choice.specs.StepLaws.{StepCase, common, by_a_chain, full_α, full_β, step_case, starts, ChainStart, step_chain, after_chain, chain_distinct, chain_rows, chain_change, placed_same}
+use Rattle.choice.proofs.Chain.{Two}
+use Rattle.choice.proofs.Exchange.{Change, changed, kept, exchange_first, exchange_second, length_exchanged}
+use Rattle.choice.proofs.StepLaws.{StepCase, common, by_a_chain, full_α, full_β, step_case, starts, ChainStart, step_chain, after_chain, chain_distinct, chain_rows, chain_change, placed_same}
 
 pub record Moves (centrals : List ℕ) (k : ℕ) (s : Step) : Type 0 where
   pub distinct : Distinct s.moved

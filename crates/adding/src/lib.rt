@@ -1,5 +1,7 @@
 // Adding one call to a running shelf: from any lawful settings, whoever made them, one step of the choice rule places the call, and
 // the rows that had to move are told. Nothing is planned anew.
+#![tactic(auto)]
+
 ghost use Rattle.std.specs.Prelude.{◌≡◌, ◌&&◌, [], ◌∷◌, ◌++◌, ◌+◌, ◌*◌, ◌≤◌, eqb, length};
 ghost use Rattle.ground.specs.Bytes.{front, Adds};
 ghost use Rattle.ground.specs.Below.{some_below};

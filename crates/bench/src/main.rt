@@ -1,6 +1,8 @@
 // The bench table of the scope of work, answered by the compiled entries. What the table says is a definition (specs/Bench.antt), proved of
 // the written rules by one statement over its list; the table below is proved to be that list, and each of its parts is given to the compiled
 // entry and compared with it.
+#![tactic(auto)]
+
 ghost use Rattle.std.specs.Prelude.{◌≡◌, map};
 ghost use Rattle.bench.specs.Bench.{bench_table};
 ghost use Rattle.bench.specs.Program.{part_of};
@@ -19,7 +21,7 @@ const MOST_ROOM: usize = 16;
 const BLANK: u8 = 9;
 
 // One part: ten numbers, the calls, and last the bytes of the buffer afterwards, or for acceptance the settings that it is given.
-#[derive(Drop)]
+#[derive(Clone, Copy)]
 pub struct Part {
     pub head: [u8; 10],
     pub calls: [u8; 4 * MOST_ROWS],

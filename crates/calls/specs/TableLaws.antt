@@ -10,7 +10,7 @@
 --   own_modules         == a table in order is one between the shelf's own modules
 --   size_number, row_number, call_number == which numbers they can tell
 use Rattle.std.specs.Prelude.{◌≡◌, refl, ◌↔◌, Bool, true, false, not, List, ℕ, suc, ◌+◌, ◌*◌, ◌/◌, ◌%◌, ◌≤◌, ◌<◌, T, length}
-use Rattle.std.proofs.Math.Logic.{Iff·trans}
+use Rattle.std.proofs.Math.Logic.Iff
 use Rattle.std.proofs.Common.{arith}
 use Rattle.ground.specs.TruthLaws.{not_is, holds_is, none_is}
 use Rattle.ground.specs.Numbers.{less_is, at_most_is, equal_is}
@@ -30,23 +30,23 @@ use Rattle.calls.specs.Table.{bad_sizes, bad_lengths, too_many_calls, outside, o
 
 pub sizes_pass : (net : Network) → ((bad_sizes net).number ≡ 0) ↔ T (within_limits net)
 unfolding bad_sizes
-sizes_pass net = Iff·trans (refused_zero 0 0 (not (within_limits net))) (holds_is (within_limits net))
+sizes_pass net = Iff.trans (refused_zero 0 0 (not (within_limits net))) (holds_is (within_limits net))
 
 pub lengths_pass : (c s per : ℕ) → ((bad_lengths c s per).number ≡ 0) ↔ ((c % 4 ≡ 0) × (s ≡ per * (c / 4)))
 unfolding bad_lengths
 lengths_pass c s per =
-    Iff·trans (refused_zero 1 0 _) (Iff·trans (none_is _) (
+    Iff.trans (refused_zero 1 0 _) (Iff.trans (none_is _) (
       λ (whole, (each, _)). ((equal_is (c % 4) 0).0 whole, (equal_is s (per * (c / 4))).0 each),
       λ h. ((equal_is (c % 4) 0).1 h.0, ((equal_is s (per * (c / 4))).1 h.1, tt)),
     ))
 
 pub count_passes : (K : ℕ) → ((too_many_calls K).number ≡ 0) ↔ (K ≤ most_calls)
 unfolding too_many_calls
-count_passes K = Iff·trans (refused_zero 2 0 _) (at_most_is K most_calls)
+count_passes K = Iff.trans (refused_zero 2 0 _) (at_most_is K most_calls)
 
 pub inside_is : (net : Network) (calls : List ℕ) (i : ℕ) → T (not (outside net calls i)) ↔ Inside net calls i
 unfolding outside_call
-inside_is net calls i = Iff·trans (none_is _) (
+inside_is net calls i = Iff.trans (none_is _) (
   λ (a, (b, (w, (w', _)))).
       record {
         own_α = (less_is (α calls i) net.r).0 a;
@@ -66,7 +66,7 @@ outside_read net calls i call h = rw (h.input_module, h.input_channel, h.output_
 
 -- a check sought row by row passes where every row does
 pub every_row : (number k : ℕ) (bad : ℕ → Bool) → ((seek_rows k (λ i. refused_if (suc number) i (bad i))).number ≡ 0) ↔ ((i : ℕ) → i < k → T (not (bad i)))
-every_row number k bad = Iff·trans (seek_passes (λ i. refused_if (suc number) i (bad i)) k) (
+every_row number k bad = Iff.trans (seek_passes (λ i. refused_if (suc number) i (bad i)) k) (
   λ h i l. (refused_zero number i (bad i)).0 (h i l),
   λ h i l. (refused_zero number i (bad i)).1 (h i l),
 )
@@ -80,7 +80,7 @@ some_row number k bad n = go (some_below k bad) refl
 
 pub outside_passes : (net : Network) (calls : List ℕ) → ((outside_row net calls).number ≡ 0) ↔ ((i : ℕ) → i < row_count calls → Inside net calls i)
 unfolding outside_row
-outside_passes net calls = Iff·trans (every_row 4 (row_count calls) (outside net calls)) (
+outside_passes net calls = Iff.trans (every_row 4 (row_count calls) (outside net calls)) (
   λ h i l. (inside_is net calls i).0 (h i l),
   λ h i l. (inside_is net calls i).1 (h i l),
 )
@@ -89,7 +89,7 @@ pub points_pass : (calls : List ℕ) (outlets : Bool) (number : ℕ) → ((point
     ↔ Once (module_of calls outlets) (channel_of calls outlets) (row_count calls)
 unfolding point_twice
 points_pass calls outlets number =
-    Iff·trans (every_row number (row_count calls) (point_used calls outlets)) (once_is (module_of calls outlets) (channel_of calls outlets) (row_count calls))
+    Iff.trans (every_row number (row_count calls) (point_used calls outlets)) (once_is (module_of calls outlets) (channel_of calls outlets) (row_count calls))
 
 pub inside_points : (net : Network) (calls : List ℕ) (outlets : Bool) → T (within_limits net) → (outside_row net calls).number ≡ 0
     → (i : ℕ) → i < row_count calls → PointFits calls outlets i
@@ -111,7 +111,7 @@ point_tells calls outlets i fits l e p m =
 pub size_checks_pass : (net : Network) (calls : List ℕ) (s per : ℕ) → ((size_checks net (length calls) s per).number ≡ 0)
     ↔ (T (within_limits net) × (length calls ≡ 4 * row_count calls) × (s ≡ per * row_count calls) × (row_count calls ≤ most_calls))
 unfolding size_checks row_count
-size_checks_pass net calls s per = Iff·trans (turn_passes _) (
+size_checks_pass net calls s per = Iff.trans (turn_passes _) (
   λ (sizes, (lengths, (count, _))).
       let l = (lengths_pass (length calls) s per).0 lengths in
       ((sizes_pass net).0 sizes, omega arith, l.1, (count_passes (row_count calls)).0 count),
@@ -121,7 +121,7 @@ size_checks_pass net calls s per = Iff·trans (turn_passes _) (
 pub call_checks_pass : (net : Network) (calls : List ℕ) → ((call_checks net calls).number ≡ 0)
     ↔ (((i : ℕ) → i < row_count calls → Inside net calls i) × Once (α calls) (ω calls) (row_count calls) × Once (β calls) (ω' calls) (row_count calls))
 unfolding call_checks
-call_checks_pass net calls = Iff·trans (turn_passes _) (
+call_checks_pass net calls = Iff.trans (turn_passes _) (
   λ (rows, (inlets, (outlets, _))). ((outside_passes net calls).0 rows, (points_pass calls false 5).0 inlets, (points_pass calls true 6).0 outlets),
   λ h. ((outside_passes net calls).1 h.0, ((points_pass calls false 5).1 h.1, ((points_pass calls true 6).1 h.2, tt))),
 )

@@ -14,7 +14,7 @@
 use Rattle.std.specs.Prelude.{◌≡◌, ◌↔◌, Bool, not, T}
 use Rattle.std.proofs.Math.Path.{refl}
 use Rattle.std.proofs.Common.{sym, ap, ◌∙◌, add-one, arith, eq-eqb, ne_eqb}
-use Rattle.std.proofs.Math.Logic.{Iff·trans, Iff·rfl, Iff·and}
+use Rattle.std.proofs.Math.Logic.Iff
 use Rattle.std.proofs.Math.Bool.{true, false}
 use mathlib.Core.List.{List, [], ◌∷◌, ◌++◌}
 use Prim.Native.Nat.{ℕ, zero, suc, ◌+◌, ◌≤◌, ◌<◌}
@@ -47,11 +47,11 @@ pub turn_passes : (vs : List Verdict) → ((in_turn vs).number ≡ 0) ↔ AllPas
 unfolding in_turn passed
 turn_passes [] = (λ h. tt, λ h. refl)
 turn_passes (v ∷ []) = (λ h. (h, tt), λ h. h.0)
-turn_passes (v ∷ w ∷ vs) = Iff·trans (then_passes v (in_turn (w ∷ vs))) (Iff·and Iff·rfl (turn_passes (w ∷ vs)))
+turn_passes (v ∷ w ∷ vs) = Iff.trans (then_passes v (in_turn (w ∷ vs))) (Iff.and Iff.rfl (turn_passes (w ∷ vs)))
 
 pub answer_passes : (vs : List Verdict) (k : ℕ) → ((answer vs k).number ≡ 0) ↔ AllPass vs
 unfolding answer success
-answer_passes vs k = Iff·trans (then_passes (in_turn vs) (success k)) (λ h. (turn_passes vs).0 h.0, λ h. ((turn_passes vs).1 h, refl))
+answer_passes vs k = Iff.trans (then_passes (in_turn vs) (success k)) (λ h. (turn_passes vs).0 h.0, λ h. ((turn_passes vs).1 h, refl))
 
 -- v is what the first of the verdicts was found to be, where it refuses
 pub turn_stops : {v a : Verdict} (vs : List Verdict) → v ≡ a → (v.number ≡ 0 → ⊥) → v ≡ in_turn (a ∷ vs)
@@ -190,7 +190,7 @@ module _ (judge : ℕ → Verdict) where
   pub seek_passes : (k : ℕ) → ((seek_rows k judge).number ≡ 0) ↔ ((i : ℕ) → i < k → (judge i).number ≡ 0)
   unfolding seek_rows passed
   seek_passes zero = (λ h i l. absurd (omega arith), λ h. refl)
-  seek_passes (suc k) = Iff·trans (then_passes (seek_rows k judge) (judge k)) (
+  seek_passes (suc k) = Iff.trans (then_passes (seek_rows k judge) (judge k)) (
     λ h. up_to (λ i. (judge i).number ≡ 0) ((seek_passes k).0 h.0) h.1,
     λ h. ((seek_passes k).1 (λ i l. h i (omega arith)), h k (omega arith)),
   )

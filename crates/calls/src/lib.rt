@@ -1,5 +1,7 @@
 // The checks of a call table, once, for all who need them: the planner, acceptance, adds, and the reader and writers of plan
 // files. Each check tells a number and a row; what a check means is a definition in specs/Table.antt.
+#![tactic(auto)]
+
 ghost use Rattle.std.specs.Prelude.{◌≡◌, ℕ, ◌+◌, ◌*◌, ◌≤◌, ◌<◌, T, length};
 ghost use Rattle.shelf.specs.Network.{within_limits};
 ghost use Rattle.shelf.specs.Rows.{row_count};
@@ -9,14 +11,14 @@ use shelf::{CallRow, Network};
 
 // An answer: 0 and a row count for success, or the number of a refusal and its row. Programs in C share this record.
 #[repr(C)]
-#[derive(Drop)]
+#[derive(Clone, Copy)]
 pub struct Verdict {
     pub number: usize,
     pub row: usize,
 }
 
 // An inlet or an outlet: a module and one of its channels.
-#[derive(Drop)]
+#[derive(Clone, Copy)]
 pub struct Point {
     pub module: usize,
     pub channel: usize,

@@ -3,16 +3,3 @@ pub mod Colouring
 pub mod Rows
 pub mod Record
 pub mod Placement
-pub mod Search
-pub mod Chain
-pub mod Exchange
-pub mod Count
-pub mod StepLaws
-pub mod Met
-pub mod PlanLaws
-pub mod UseAfter
-pub mod RowsLaws
-pub mod RecordLaws
-pub mod Agree
-pub mod Mending
-pub mod PlacementLaws

@@ -2,6 +2,8 @@
 // The rule itself, and that it keeps any proper colouring proper, are definitions and laws in specs/.
 //
 // The calls placed so far lie in one slice of rows of three bytes: input module, central, output module.
+#![tactic(auto)]
+
 ghost use Rattle.std.specs.Prelude.{◌≡◌, true, false, ◌+◌, ◌*◌, ◌-◌, ◌/◌, ◌%◌, ◌≤◌, ◌<◌, T, length, set};
 ghost use Rattle.ground.specs.Words.{put_at};
 ghost use Rattle.shelf.specs.Network.{most_modules, most_centrals, most_calls, within_limits};

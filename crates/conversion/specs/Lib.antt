@@ -1,3 +1,1 @@
 pub mod Conversion
-pub mod ConversionLaws
-pub mod ThereAndBack

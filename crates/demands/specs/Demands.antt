@@ -14,8 +14,8 @@ use Rattle.calls.specs.Table.{InOrder}
 use Rattle.acceptance.specs.Acceptance.{Accepts}
 use Rattle.planner.specs.declared.Planned.{Planned}
 use Rattle.planner.specs.Planner.{planner_verdict, plan_answer, NoneOverfull, SomeOverfull, Plans}
-use Rattle.planner.specs.Owed.{verdict_passes}
-use Rattle.planner.specs.Overfull.{none_overfull}
+use Rattle.planner.proofs.Owed.{verdict_passes}
+use Rattle.planner.proofs.Overfull.{none_overfull}
 
 module _ {net : Network} {calls before after : List ℕ} {a : Planned} (plans : Plans net calls before after a) where
   pub planned_exactly : (a.number ≡ 0) ↔ (InOrder net calls × (3 * row_count calls ≤ length before) × NoneOverfull net calls)

@@ -1,3 +1,1 @@
 pub mod Dropping
-pub mod WithoutRow
-pub mod DroppingLaws

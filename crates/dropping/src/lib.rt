@@ -1,5 +1,7 @@
 // Dropping one call from a running shelf: its row is taken out of both tables, and later rows close up. No other call is touched, and
 // the central of the dropped call is free at both its modules again.
+#![tactic(auto)]
+
 ghost use Rattle.std.specs.Prelude.{◌≡◌, ◌++◌, ◌+◌, ◌-◌, ◌≤◌, length, take, drop};
 ghost use Rattle.ground.specs.Bytes.{front};
 ghost use Rattle.calls.specs.Verdict.{in_turn};

@@ -1,5 +1,7 @@
 // The eleven entries for programs in C and Rust. Each has its entry's own contract, on its entry's own records, so what is proved
 // of an entry holds of its export, and so does every law over its guarantee. Nothing is asked of the input.
+#![tactic(auto)]
+
 ghost use Rattle.std.specs.Prelude.{true, false};
 ghost use Rattle.acceptance.specs.Acceptance.{Accepts};
 ghost use Rattle.planner.specs.Planner.{Plans};

@@ -1,2 +1,1 @@
 pub mod Grating
-pub mod Laws

@@ -9,7 +9,7 @@
 --   once_same            == only the rows below k matter
 use Rattle.std.specs.Prelude.{◌≡◌, refl, ◌⊎◌, ◌↔◌, Bool, true, false, not, ◌&&◌, ℕ, zero, suc, ◌+◌, ◌<◌, T}
 use Rattle.std.proofs.Common.{sym, ◌∙◌, inl, inr, add-one, arith}
-use Rattle.std.proofs.Math.Logic.{Iff·trans}
+use Rattle.std.proofs.Math.Logic.Iff
 use Rattle.std.proofs.Math.Decide.{dec_lt}
 use Rattle.std.proofs.Math.Dec.{eqb}
 use Rattle.ground.specs.TruthLaws.{both_is, either_is, not_is, same_test}
@@ -19,7 +19,7 @@ use Rattle.ground.specs.Below.{every_below, some_below, used_earlier, Once}
 pub every_is : (k : ℕ) (p : ℕ → Bool) → T (every_below k p) ↔ ((i : ℕ) → i < k → T (p i))
 unfolding every_below
 every_is zero p = (λ h i l. absurd (omega arith), λ h. tt)
-every_is (suc k) p = Iff·trans (both_is (every_below k p) (p k)) (
+every_is (suc k) p = Iff.trans (both_is (every_below k p) (p k)) (
   λ h. up_to (λ i. T (p i)) ((every_is k p).0 h.0) h.1,
   λ h. ((every_is k p).1 (λ i l. h i (omega arith)), h k (omega arith)),
 )
@@ -55,7 +55,7 @@ some_next i p e f = rw (add-one i, e, f)
 module _ (f g : ℕ → ℕ) where
   pub used_earlier_is : (j : ℕ) → T (used_earlier f g j) ↔ ((i : ℕ) × (i < j) × (f i ≡ f j) × (g i ≡ g j))
   unfolding used_earlier
-  used_earlier_is j = Iff·trans (some_is j (λ i. eqb (f i) (f j) && eqb (g i) (g j))) (
+  used_earlier_is j = Iff.trans (some_is j (λ i. eqb (f i) (f j) && eqb (g i) (g j))) (
     λ h. let e = (pair_is (f h.0) (g h.0) (f j) (g j)).0 h.2 in (h.0, h.1, e.0, e.1),
     λ h. (h.0, h.1, (pair_is (f h.0) (g h.0) (f j) (g j)).1 (h.2, h.3)),
   )
@@ -70,7 +70,7 @@ module _ (f g : ℕ → ℕ) where
   )
 
   pub once_is : (k : ℕ) → ((j : ℕ) → j < k → T (not (used_earlier f g j))) ↔ Once f g k
-  once_is k = Iff·trans (
+  once_is k = Iff.trans (
     λ h j l i m e q. (not_is (used_earlier f g j)).0 (h j l) ((used_earlier_is j).1 (i, m, e, q)),
     λ h j l. (not_is (used_earlier f g j)).1 (λ t. let w = (used_earlier_is j).0 t in h j l w.0 w.1 w.2 w.3),
   ) ((once_apart k).1, (once_apart k).0)

@@ -3,7 +3,7 @@
 --   mark_tells          == what marking a row's pair tells, and what it leaves
 use Rattle.std.specs.Prelude.{◌≡◌, refl, Bool, false, cond, ◌&&◌, ◌||◌, List, eqb, length}
 use Rattle.std.proofs.Common.{◌∙◌, add-one, arith}
-use Rattle.std.proofs.Math.Logic.{Iff·trans, Iff·symm}
+use Rattle.std.proofs.Math.Logic.Iff
 use Rattle.std.proofs.Math.Bool.{true}
 use Prim.Native.Nat.{ℕ, zero, suc, ◌+◌, ◌<◌}
 use Rattle.std.proofs.Math.ListN.{length-replicate}
@@ -21,7 +21,7 @@ marked_or a b c d t = rw turned (either (eqb a c && eqb b d) t)
   where
     turned : (eqb c a && eqb d b) ≡ (eqb a c && eqb b d)
     turned = same_test (eqb c a && eqb d b) (eqb a c && eqb b d)
-        (Iff·trans (pair_is c d a b) (Iff·trans ((λ e. (omega arith, omega arith)), (λ e. (omega arith, omega arith))) (Iff·symm (pair_is a b c d))))
+        (Iff.trans (pair_is c d a b) (Iff.trans ((λ e. (omega arith, omega arith)), (λ e. (omega arith, omega arith))) (Iff.symm (pair_is a b c d))))
 
     either : (s u : Bool) → cond s true u ≡ (u || s)
     either true true = refl

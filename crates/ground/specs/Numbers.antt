@@ -7,7 +7,7 @@
 --   up_to               == what holds of every number below k, and of k, holds of every number below suc k
 use Rattle.std.specs.Prelude.{◌≡◌, ◌⊎◌, ◌↔◌, true, false, not, ◌&&◌, ℕ, suc, ◌≤◌, ◌<◌, T, eqb, leb, ltb}
 use Rattle.std.proofs.Common.{inl, inr, eq-or-lt_of_le, le_of_suc-le-suc, arith, eqb→eq, leb→le, le→leb, ltb→lt, lt→ltb, nltb→le}
-use Rattle.std.proofs.Math.Logic.{Iff·trans, Iff·and}
+use Rattle.std.proofs.Math.Logic.Iff
 use Rattle.std.proofs.Math.Dec.{eqb_refl, nleb→lt, not_T}
 use Rattle.ground.specs.TruthLaws.{both_is, holds_is, same_test}
 
@@ -27,10 +27,10 @@ pub at_most_is : (a b : ℕ) → T (not (ltb b a)) ↔ (a ≤ b)
 at_most_is a b = (nltb→le b a, λ h. not_T (ltb b a) (λ t. omega (arith, ltb→lt b a t)))
 
 pub equal_is : (a b : ℕ) → T (not (not (eqb a b))) ↔ (a ≡ b)
-equal_is a b = Iff·trans (holds_is (eqb a b)) (eqb_is a b)
+equal_is a b = Iff.trans (holds_is (eqb a b)) (eqb_is a b)
 
 pub pair_is : (a b c d : ℕ) → T (eqb a c && eqb b d) ↔ ((a ≡ c) × (b ≡ d))
-pair_is a b c d = Iff·trans (both_is (eqb a c) (eqb b d)) (Iff·and (eqb_is a c) (eqb_is b d))
+pair_is a b c d = Iff.trans (both_is (eqb a c) (eqb b d)) (Iff.and (eqb_is a c) (eqb_is b d))
 
 pub pair_same : {a b c d : ℕ} → a ≡ c → b ≡ d → (eqb a c && eqb b d) ≡ true
 pair_same {a} {b} {c} {d} e f = same_test (eqb a c && eqb b d) true (λ t. tt, λ t. (pair_is a b c d).1 (e, f))

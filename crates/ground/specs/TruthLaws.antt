@@ -6,7 +6,7 @@
 --   not_both             == no test is both
 use Rattle.std.specs.Prelude.{◌≡◌, refl, ◌⊎◌, ◌↔◌, Bool, true, false, not, ◌&&◌, ◌||◌, List, [], ◌∷◌, T}
 use Rattle.std.proofs.Common.{sym, subst, inl, inr}
-use Rattle.std.proofs.Math.Logic.{Iff·trans, Iff·rfl, Iff·and}
+use Rattle.std.proofs.Math.Logic.Iff
 use Rattle.ground.specs.Truth.{all, any, AllHold, SomeHolds, NoneHolds}
 
 pub both_is : (s t : Bool) → T (s && t) ↔ (T s × T t)
@@ -26,26 +26,26 @@ neither_is true t = (λ h. absurd h, λ h. h.0)
 neither_is false t = (λ h. (tt, h), λ h. h.1)
 
 pub holds_is : (t : Bool) → T (not (not t)) ↔ T t
-holds_is true = Iff·rfl
-holds_is false = Iff·rfl
+holds_is true = Iff.rfl
+holds_is false = Iff.rfl
 
 pub all_is : (ts : List Bool) → T (all ts) ↔ AllHold ts
 unfolding all
-all_is [] = Iff·rfl
-all_is (t ∷ ts) = Iff·trans (both_is t (all ts)) (Iff·and Iff·rfl (all_is ts))
+all_is [] = Iff.rfl
+all_is (t ∷ ts) = Iff.trans (both_is t (all ts)) (Iff.and Iff.rfl (all_is ts))
 
 pub any_is : (ts : List Bool) → T (any ts) ↔ SomeHolds ts
 unfolding any
-any_is [] = Iff·rfl
-any_is (t ∷ ts) = Iff·trans (either_is t (any ts)) (
+any_is [] = Iff.rfl
+any_is (t ∷ ts) = Iff.trans (either_is t (any ts)) (
   elim [ inl h ↦ inl h | inr h ↦ inr ((any_is ts).0 h) ],
   elim [ inl h ↦ inl h | inr h ↦ inr ((any_is ts).1 h) ],
 )
 
 pub none_is : (ts : List Bool) → T (not (any ts)) ↔ NoneHolds ts
 unfolding any
-none_is [] = Iff·rfl
-none_is (t ∷ ts) = Iff·trans (neither_is t (any ts)) (Iff·and Iff·rfl (none_is ts))
+none_is [] = Iff.rfl
+none_is (t ∷ ts) = Iff.trans (neither_is t (any ts)) (Iff.and Iff.rfl (none_is ts))
 
 pub same_test : (s t : Bool) → T s ↔ T t → s ≡ t
 same_test true true h = refl

@@ -1,5 +1,7 @@
 // What stands under every floor: bytes as numbers, numbers of two bytes, bytes put into a buffer, and a record of use. Nothing
 // here is about shelves. The laws of tests, numbers, bytes and lists that all crates share are in specs/.
+#![tactic(auto)]
+
 ghost use Rattle.std.specs.Prelude.{◌≡◌, [], ◌∷◌, ◌+◌, ◌≤◌, ◌<◌, length, get_or};
 ghost use Rattle.ground.specs.Bytes.{high_byte, low_byte, number_at, Adds};
 ghost use Rattle.ground.specs.Words.{word_size, has_bit, put_bit, least, Neither};
@@ -58,7 +60,9 @@ pub fn write_bytes(out: &mut [u8], at: usize, source: &[u8]) -> usize
     requires { at + length source.now ≤ length out.old }
     ensures { Adds out.old out.new at result source.now }
 {
-    at + bytes::copy(source, &mut out[at..])
+    let next = at + source.len();
+    out[at..next].copy_from_slice(source);
+    next
 }
 
 // Whether a bit of a word is set.

@@ -6,7 +6,7 @@
 use Rattle.std.specs.Prelude.{◌≡◌, refl, ◌↔◌, Bool, true, ◌&&◌, List, [], ◌∷◌, ◌++◌, ℕ, suc, ◌*◌, ◌<◌, T, length}
 use Rattle.std.proofs.Common.{sym, ◌∙◌, arith}
 use Rattle.std.proofs.Math.Path.{ap}
-use Rattle.std.proofs.Math.Logic.{Iff·trans}
+use Rattle.std.proofs.Math.Logic.Iff
 use Rattle.std.proofs.Math.Bool.{false}
 use Rattle.std.proofs.Math.Option.{Option, none, some}
 use Rattle.ground.specs.TruthLaws.{both_is, not_is, test_fails, same_test}
@@ -14,22 +14,22 @@ use Rattle.ground.specs.Lists.{In, here, there}
 use Rattle.shelf.specs.declared.Network.{Network}
 use Rattle.shelf.specs.Network.{cycle}
 use Rattle.shelf.specs.Rows.{row_count, α, β, γ, module_of}
-use Rattle.shelf.specs.LawfulLaws.{lawful_parts}
+use Rattle.shelf.proofs.LawfulLaws.{lawful_parts}
 use Rattle.shelf.specs.Order.{order}
 use Rattle.calls.specs.declared.Verdict.{Verdict}
 use Rattle.choice.specs.Rule.{at, is_free, first_of, Step}
 use Rattle.choice.specs.Colouring.{Free}
 use Rattle.choice.specs.Rows.{centrals_of}
-use Rattle.choice.specs.RowsLaws.{centrals_length}
-use Rattle.choice.specs.Search.{Picked, nothing, picked, free_iff}
-use Rattle.choice.specs.StepLaws.{step_common, placed_new}
+use Rattle.choice.proofs.RowsLaws.{centrals_length}
+use Rattle.choice.proofs.Search.{Picked, nothing, picked, free_iff}
+use Rattle.choice.proofs.StepLaws.{step_common, placed_new}
 use Rattle.planner.specs.declared.Planned.{Planned}
-use Rattle.planner.specs.SettingsLaws.{central_of, settings_γ}
-use Rattle.planner.specs.Owed.{lawful_colours}
+use Rattle.planner.proofs.SettingsLaws.{central_of, settings_γ}
+use Rattle.planner.proofs.Owed.{lawful_colours}
 use Rattle.adding.specs.Adding as adding
 use Rattle.adding.specs.Adding.{AddsCall, add_step, added_settings}
 use Rattle.adding.specs.Appending.{module_before, module_new}
-use Rattle.adding.specs.AddingLaws.{whole_before}
+use Rattle.adding.proofs.AddingLaws.{whole_before}
 use Rattle.dropping.specs.Dropping as dropping
 use Rattle.dropping.specs.Dropping.{DropsCall, without_row}
 
@@ -80,7 +80,7 @@ module _ {net : Network} {calls settings call : List ℕ} {before after : adding
 
   -- what the choice rule's first search looks for
   common_is : (c : ℕ) → T (test c) ↔ ((output : Bool) → Free (module_of calls output) (γ settings) K (module_of call output 0) c)
-  common_is c = Iff·trans (both_is (is_free (α table) (at (centrals_of settings)) K (α table K) c) (is_free (β table) (at (centrals_of settings)) K (β table K) c)) (
+  common_is c = Iff.trans (both_is (is_free (α table) (at (centrals_of settings)) K (α table K) c) (is_free (β table) (at (centrals_of settings)) K (β table K) c)) (
     λ h. sides ((free_is false c).0 ((free_iff (α table) (at (centrals_of settings)) K (α table K) c).0 h.0)) ((free_is true c).0 ((free_iff (β table) (at (centrals_of settings)) K (β table K) c).0 h.1)),
     λ h. ((free_iff (α table) (at (centrals_of settings)) K (α table K) c).1 ((free_is false c).1 (h false)), (free_iff (β table) (at (centrals_of settings)) K (β table K) c).1 ((free_is true c).1 (h true))),
   )

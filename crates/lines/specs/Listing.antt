@@ -20,13 +20,13 @@ use Rattle.shelf.specs.Network.{most_calls}
 use Rattle.shelf.specs.Rows.{row_count}
 use Rattle.planner.specs.declared.Planned.{Planned}
 use Rattle.planner.specs.Planner.{planner_verdict, planned_settings, plan_answer, plan_buffer, Plans}
-use Rattle.planner.specs.SettingsLaws.{planned_length}
+use Rattle.planner.proofs.SettingsLaws.{planned_length}
 use Rattle.trailer.specs.declared.Told.{Told}
 use Rattle.trailer.specs.File.{has_settings, all_kinds, longest_file}
-use Rattle.trailer.specs.FileLaws.{settings_distance_lem, settings_most, rows_part}
+use Rattle.trailer.proofs.FileLaws.{settings_distance_lem, settings_most, rows_part}
 use Rattle.trailer.specs.Trailer.{trailer_place, layout_of, whole_told}
 use Rattle.planfile.specs.Reader.{read_answer, calls_in, settings_in, net_of}
-use Rattle.planfile.specs.ReaderLaws.{laid_out, reader_passes, read_whole, read_passes}
+use Rattle.planfile.proofs.ReaderLaws.{laid_out, reader_passes, read_whole, read_passes}
 use Rattle.lines.specs.Text.{decimal, too_long_text, refused_text, table_text, planned_text, calls_text, told_text, listing}
 use Rattle.lines.specs.Writing.{Lists, HasRows}
 

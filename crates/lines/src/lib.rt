@@ -1,5 +1,7 @@
 // The text of the listing program: a plan file's rows in decimal, or why the file is refused. Every function writes its text into
 // a buffer that is lent, from a position on, and tells the position behind it. The text itself is stated in specs/Text.antt.
+#![tactic(auto)]
+
 ghost use Rattle.std.specs.Prelude.{[], ◌∷◌, ◌++◌, ◌+◌, ◌*◌, ◌≤◌, ◌<◌, length};
 ghost use Rattle.ground.specs.Bytes.{Adds};
 ghost use Rattle.shelf.specs.Network.{most_calls};

@@ -1,5 +1,7 @@
 // The listing program: reads one plan file on standard input, and prints its rows in decimal, or why there are none. One byte more
 // than the longest file has is read, so that a file that is too long is told from others.
+#![tactic(auto)]
+
 use libc::{STDIN_FILENO, STDOUT_FILENO};
 
 fn main() {

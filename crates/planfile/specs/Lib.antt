@@ -1,4 +1,2 @@
 pub mod Checks
 pub mod Reader
-pub mod ChecksLaws
-pub mod ReaderLaws

@@ -1,5 +1,7 @@
 // The reader of plan files: any bytes are read or refused. How a file is laid out is stated once, by the crate below, which takes the
 // trailer apart.
+#![tactic(auto)]
+
 ghost use Rattle.std.specs.Prelude.{◌≡◌, T, length};
 ghost use Rattle.shelf.specs.Network.{within_limits};
 ghost use Rattle.shelf.specs.Rows.{row_count};

@@ -1,5 +1,7 @@
 // The planner: settings for a table of calls by the choice rule and the grating rule, for any bytes at all. Where no module has
 // more calls than there are centrals it yields lawful settings; where one has more it refuses, and no settings would be lawful.
+#![tactic(auto)]
+
 ghost use Rattle.std.specs.Prelude.{◌≡◌, true, false, ℕ, ◌+◌, ◌*◌, ◌/◌, ◌≤◌, ◌<◌, T, length, get_or, set};
 ghost use Rattle.grating.specs.Grating.{wavelength_between};
 ghost use Rattle.shelf.specs.Network.{within_limits};
@@ -17,7 +19,7 @@ use shelf::{CallRow, Network};
 // The planner's answer: 0, K and the number of calls moved; or a refusal's number and row, with nothing moved.
 // Programs in C share this record.
 #[repr(C)]
-#[derive(Drop)]
+#[derive(Clone, Copy)]
 pub struct Planned {
     pub number: usize,
     pub row: usize,

@@ -1,5 +1,7 @@
 // The writers of plan files, one for each kind: any parts are written or refused. How a file is laid out is stated once, by the crate `trailer`, and
 // that files read back as written is a law over reader and writers (specs/RoundTrips.antt).
+#![tactic(auto)]
+
 ghost use Rattle.std.specs.Prelude.{◌∷◌, ◌≡◌, ◌≤◌, ◌<◌, T, length};
 ghost use Rattle.ground.specs.Bytes.{front};
 ghost use Rattle.shelf.specs.Network.{within_limits, most_calls};

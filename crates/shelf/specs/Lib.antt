@@ -4,6 +4,3 @@ pub mod Order
 pub mod OrderLaws
 pub mod Rows
 pub mod Light
-pub mod Arrival
-pub mod Collisions
-pub mod LawfulLaws

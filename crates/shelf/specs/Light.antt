@@ -59,20 +59,20 @@ second net ρ = elim (first net ρ) [ none ↦ none | some p ↦ port_below net.
 -- "Four kinds of link: input module to first grating (α, carrying x); first grating to central (p, x); central to second
 -- grating (p, y); second grating to output module (q, y)."
 pub data Kind : Type 0 where
-  to-first to_central to-second to-output : Kind
+  to_first to_central to_second to_output : Kind
 
 abbrev pub kinds : List Kind
-kinds = to-first ∷ to_central ∷ to-second ∷ to-output ∷ []
+kinds = to_first ∷ to_central ∷ to_second ∷ to_output ∷ []
 
 pub record Lit : Type 0 where
   pub port : ℕ
   pub wavelength : ℕ
 
 unfoldable pub link : Network → Row → Kind → Option Lit
-link net ρ to-first = some (record { port = ρ.α; wavelength = ρ.x })
+link net ρ to_first = some (record { port = ρ.α; wavelength = ρ.x })
 link net ρ to_central = Option.map (λ p. record { port = p; wavelength = ρ.x }) (first net ρ)
-link net ρ to-second = Option.map (λ p. record { port = p; wavelength = ρ.y }) (first net ρ)
-link net ρ to-output = Option.map (λ q. record { port = q; wavelength = ρ.y }) (second net ρ)
+link net ρ to_second = Option.map (λ p. record { port = p; wavelength = ρ.y }) (first net ρ)
+link net ρ to_output = Option.map (λ q. record { port = q; wavelength = ρ.y }) (second net ρ)
 
 -- "Two rows collide when they share a link and its wavelength."
 unfoldable pub same : Option Lit → Option Lit → Bool

@@ -13,7 +13,7 @@
 use Rattle.std.proofs.Math.Path.{◌≡◌, refl}
 use Rattle.std.proofs.Common.{sym, ◌∙◌, arith}
 use Rattle.std.specs.Prelude.{◌↔◌, Bool, [], ◌∷◌, ℕ, ◌≤◌, ◌<◌, T, leb}
-use Rattle.std.proofs.Math.Logic.{Iff·trans, Iff·rfl, Iff·and}
+use Rattle.std.proofs.Math.Logic.Iff
 use Rattle.std.proofs.Math.Bool.{true, false, cond}
 use Rattle.std.proofs.Math.Dec.{eqb_refl}
 use Rattle.ground.specs.Truth.{all}
@@ -38,12 +38,12 @@ pub record InLimits (net : Network) : Type 0 where
 
 within_is : (size most : ℕ) → T (within size most) ↔ ((1 ≤ size) × (size ≤ most))
 unfolding within
-within_is size most = Iff·trans (both_is (leb 1 size) (leb size most)) (Iff·and (leb_is 1 size) (leb_is size most))
+within_is size most = Iff.trans (both_is (leb 1 size) (leb size most)) (Iff.and (leb_is 1 size) (leb_is size most))
 
 module _ (net : Network) where
   pub limits_are : T (within_limits net) ↔ InLimits net
   unfolding within_limits cycle_within
-  limits_are = Iff·trans (all_is _) (
+  limits_are = Iff.trans (all_is _) (
     λ (in_n, (in_m, (in_r, (in-W, _)))).
         let n = (within_is net.n most_channels).0 in_n in
         let m = (within_is net.m most_centrals).0 in_m in
@@ -92,7 +92,7 @@ module _ (net : Network) where
 
   pub own_central_is : (γ : ℕ) → T (own_central net γ) ↔ T (has_central net γ)
   unfolding own_central
-  own_central_is γ = Iff·rfl
+  own_central_is γ = Iff.rfl
 
   pub own_central_below : (γ : ℕ) → T (own_central net γ) → γ < net.m
   own_central_below γ h = (has_central_is γ).0 ((own_central_is γ).0 h)

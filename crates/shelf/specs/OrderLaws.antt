@@ -4,7 +4,7 @@
 --   order_start, order_here, order_end == a search by rising centrals: it starts with all of the order, tries one after the
 --                           other, and ends at m
 use Rattle.std.specs.Prelude.{◌≡◌, ◌↔◌, [], ◌∷◌, T, length}
-use Rattle.std.proofs.Math.Logic.{Iff·trans}
+use Rattle.std.proofs.Math.Logic.Iff
 use Prim.Native.Nat.{ℕ, suc, ◌+◌, ◌-◌, ◌≤◌, ◌<◌}
 use Rattle.std.proofs.Math.Numerals.{add-one}
 use native.Mathlib.Omega.{arith}
@@ -18,7 +18,7 @@ use Rattle.shelf.specs.Order.{order, order_from}
 module _ (net : Network) where
   pub order_own : (c : ℕ) → In c (order net) ↔ T (own_central net c)
   unfolding order
-  order_own c = Iff·trans (in_up 0 net.m c) (
+  order_own c = Iff.trans (in_up 0 net.m c) (
     λ h. (own_central_is net c).1 ((has_central_is net c).1 (omega arith)),
     λ t. omega (arith, (has_central_is net c).0 ((own_central_is net c).0 t)),
   )

@@ -1,5 +1,7 @@
 // The shelf: the network's own record with its limits, and the rows of a call table and of settings out of bytes.
 // How light travels through a shelf, and which settings are lawful, are definitions in specs/Light.antt.
+#![tactic(auto)]
+
 ghost use Rattle.std.specs.Prelude.{◌≡◌, ◌+◌, ◌*◌, ◌≤◌, length};
 ghost use Rattle.shelf.specs.Network.{Limits, most_wavelengths, within, cycle, cycle_within, within_limits, least_cycle, of_sizes, has_least_cycle, Built};
 ghost use Rattle.shelf.specs.Order.{order};
@@ -9,7 +11,7 @@ ghost use Rattle.shelf.specs.Rows.{CallRead, SettingsRead};
 // both gratings. The numbers in a record may be any numbers: who is lent one asks `within_limits`. Programs in C share this
 // record.
 #[repr(C)]
-#[derive(Drop)]
+#[derive(Clone, Copy)]
 pub struct Network {
     pub n: usize,
     pub m: usize,
@@ -18,7 +20,7 @@ pub struct Network {
 }
 
 // What a constructor answers: a network within its limits, or refusal 1.
-#[derive(Drop)]
+#[derive(Clone, Copy)]
 pub enum Sized {
     Made(Network),
     Refused,
@@ -38,7 +40,7 @@ impl Network {
     // The network of these sizes whose cycle is the larger of r and m, refused where one of them is outside its limits.
     pub fn new(n: usize, m: usize, r: usize) -> Sized
         ensures answer { Built (of_sizes n m r) result }
-        ensures* limits { do ⌜ Limits (← (⟦Network::MOST_CHANNELS⟧).entry) (← (⟦Network::MOST_CENTRALS⟧).entry) (← (⟦Network::MOST_MODULES⟧).entry) (← (⟦Network::MOST_CALLS⟧).entry) ⌝ }
+        ensures limits { Limits Network.MOST_CHANNELS Network.MOST_CENTRALS Network.MOST_MODULES Network.MOST_CALLS }
     {
         let net = Network::of_sizes(n, m, r);
         net.tested()
@@ -47,7 +49,7 @@ impl Network {
     // The network of these sizes and this cycle, refused where one of them is outside its limits.
     pub fn with_cycle(n: usize, m: usize, r: usize, w: usize) -> Sized
         ensures answer { Built (record { n = n; m = m; r = r; w = w }) result }
-        ensures* limit { do ⌜ (← (⟦Network::MOST_WAVELENGTHS⟧).entry) ≡ most_wavelengths ⌝ }
+        ensures limit { Network.MOST_WAVELENGTHS ≡ most_wavelengths }
     {
         let net = Network { n, m, r, w };
         net.tested()
@@ -143,7 +145,7 @@ fn least_cycle(m: usize, r: usize) -> usize
 }
 
 // A call row: the inlet and the outlet of one call.
-#[derive(Drop)]
+#[derive(Clone, Copy)]
 pub struct CallRow {
     pub input_module: usize,
     pub input_channel: usize,
@@ -168,7 +170,7 @@ impl CallRow {
 }
 
 // A settings row: the wavelength to the central module, the central module, the wavelength from it.
-#[derive(Drop)]
+#[derive(Clone, Copy)]
 pub struct SettingsRow {
     pub to_central: usize,
     pub central: usize,

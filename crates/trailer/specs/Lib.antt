@@ -1,5 +1,2 @@
 pub mod File
 pub mod Trailer
-pub mod KindLaws
-pub mod FileLaws
-pub mod TrailerLaws

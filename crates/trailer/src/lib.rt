@@ -1,5 +1,7 @@
 // The kinds of plan file, how a file is laid out, and its trailer, which stands last and points back: it is taken apart before a row is
 // touched. The layout is stated once for all kinds, in specs/File.antt, for readers and writers above.
+#![tactic(auto)]
+
 ghost use Rattle.std.specs.Prelude.{◌≡◌, ◌*◌, ◌≤◌, T, length};
 ghost use Rattle.shelf.specs.Network.{most_calls, sized};
 ghost use Rattle.trailer.specs.File.{has_settings, has_cycle, kind_with, takes, old_kinds, new_kinds, all_kinds, short_trailer, trailer_length, settings_per_call, settings_distance, calls_distance};
@@ -55,7 +57,7 @@ const MARK_AT: usize = 10;
 pub const MARK: usize = 0x4157;
 
 // The kinds that a reader takes: from the first to the last.
-#[derive(Drop)]
+#[derive(Clone, Copy)]
 pub struct Kinds {
     pub first: usize,
     pub last: usize,
@@ -106,7 +108,7 @@ impl Kinds {
 // What a reader tells: number and row, the network with its cycle, the kind, K, and where note, calls and settings begin. A refused
 // read tells zero for all but number and row. Programs in C share this record.
 #[repr(C)]
-#[derive(Drop)]
+#[derive(Clone, Copy)]
 pub struct Told {
     pub number: usize,
     pub row: usize,
@@ -122,7 +124,7 @@ pub struct Told {
 }
 
 // What a whole trailer says of its file.
-#[derive(Drop)]
+#[derive(Clone, Copy)]
 pub struct Layout {
     pub net: Network,
     pub kind: usize,
@@ -133,7 +135,7 @@ pub struct Layout {
 }
 
 // What taking the trailer apart answers: the layout, or a refusal.
-#[derive(Drop)]
+#[derive(Clone, Copy)]
 pub enum Trailer {
     Whole(Layout),
     Refused(Verdict),

@@ -4,6 +4,8 @@
 // A file to be read, listed or converted stands in the place of the calls, a call to be added in that of the note. For each input a line is
 // printed: the numbers that the entry answers, then each byte of the rooms as the entry left them. Of a listing the numbers are the
 // length of the text and how many bytes beyond it were changed in the buffer, and the bytes are those of the text.
+#![tactic(auto)]
+
 ghost use Rattle.std.specs.Prelude.{◌+◌, ◌≤◌, T, length};
 
 use calls::Verdict;

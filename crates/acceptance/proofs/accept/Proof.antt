@@ -6,7 +6,7 @@ use Rattle.calls.specs.Verdict.{success}
 use Rattle.calls.specs.VerdictLaws.{turn_stops, turn_goes_on, turn_last, answer_refused, answer_passed}
 use Rattle.calls.specs.TableLaws.{size_checks_pass}
 use Rattle.acceptance.specs.Acceptance.{acceptance}
-use Rattle.acceptance.specs.Exactly.{accepts}
+use Rattle.acceptance.proofs.Exactly.{accepts}
 use borrow.Author.Rules.{rules}
 use Rattle.acceptance.proofs.accept.Statement.{statement}
 use Rattle.acceptance.proofs.accept.Tie as tie

@@ -6,7 +6,7 @@ use borrow.Author.Tests.{not-true, not-false}
 use Rattle.shelf.specs.NetworkLaws.{modules_in_cycle}
 use Rattle.calls.specs.Verdict.{passed}
 use Rattle.acceptance.specs.Acceptance.{has_numbers}
-use Rattle.acceptance.specs.Tests.{numbers_below, light_nine, light_ten, light_eleven, light_passed}
+use Rattle.acceptance.proofs.Tests.{numbers_below, light_nine, light_ten, light_eleven, light_passed}
 use borrow.Author.Rules.{rules}
 use Rattle.acceptance.proofs.judge_light.Statement.{statement}
 use Rattle.acceptance.proofs.judge_light.Tie as tie

@@ -12,7 +12,7 @@ use Rattle.shelf.specs.Network.{most_modules}
 use Rattle.shelf.specs.Rows.{row_count}
 use Rattle.calls.specs.Verdict.{passed, seek_rows}
 use Rattle.acceptance.specs.Acceptance.{row_verdict, unlawful_row}
-use Rattle.acceptance.specs.Pairs.{pair_marks, Judged, light_refuses, pair_room, pair_tells, twelve, thirteen, next_passes}
+use Rattle.acceptance.proofs.Pairs.{pair_marks, Judged, light_refuses, pair_room, pair_tells, twelve, thirteen, next_passes}
 use Rattle.acceptance.proofs.seek_unlawful.Statement.{statement}
 use Rattle.acceptance.proofs.seek_unlawful.Tie as tie
 

@@ -10,7 +10,7 @@ use Rattle.ground.specs.BytesLaws.{adds_front, adds_length, adds_taken}
 use Rattle.shelf.specs.Network.{most_calls}
 use Rattle.shelf.specs.Rows.{row_count}
 use Rattle.adding.specs.Adding.{Lent}
-use Rattle.adding.specs.AddingLaws.{adds_refused, rooms, few_calls, append_length, addable, adds_done}
+use Rattle.adding.proofs.AddingLaws.{adds_refused, rooms, few_calls, append_length, addable, adds_done}
 use Rattle.adding.proofs.add.Statement.{statement}
 use Rattle.adding.proofs.add.Tie as tie
 

@@ -9,7 +9,7 @@ use lib.ListN.{length}
 use borrow.Author.Tests.{eq-eqb, ne_eqb}
 use Rattle.shelf.specs.Rows.{row_count, module_of}
 use Rattle.choice.specs.Colouring.{rows_below, at_module}
-use Rattle.choice.specs.Count.{count_next}
+use Rattle.choice.proofs.Count.{count_next}
 use Rattle.adding.proofs.calls_at.Statement.{statement}
 use Rattle.adding.proofs.calls_at.Tie as tie
 

@@ -4,7 +4,7 @@ use native.Mathlib.Nat.{le_antisymm}
 use native.Mathlib.Omega.{arith}
 use Rattle.shelf.specs.Rows.{row_count}
 use Rattle.adding.specs.Steps.{Entered}
-use Rattle.adding.specs.Entering.{none_entered, one_entered}
+use Rattle.adding.proofs.Entering.{none_entered, one_entered}
 use Rattle.adding.proofs.enter_calls.Statement.{statement}
 use Rattle.adding.proofs.enter_calls.Tie as tie
 

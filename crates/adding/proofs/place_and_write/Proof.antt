@@ -8,7 +8,7 @@ use Rattle.shelf.specs.NetworkLaws.{limits_are}
 use Rattle.choice.specs.Record.{modules_of_both, record_size, nothing_used}
 use Rattle.choice.specs.Placement.{chain_places}
 use Rattle.adding.specs.Steps.{last_row}
-use Rattle.adding.specs.Entering.{Prepared, prepared, recordable, ready, tellable, writable, added}
+use Rattle.adding.proofs.Entering.{Prepared, prepared, recordable, ready, tellable, writable, added}
 use Rattle.adding.proofs.place_and_write.Statement.{statement}
 use Rattle.adding.proofs.place_and_write.Tie as tie
 

@@ -11,9 +11,9 @@ use Rattle.calls.specs.declared.Verdict.{Verdict}
 use Rattle.calls.specs.Verdict.{in_turn}
 use Rattle.calls.specs.VerdictLaws.{turn_stops, turn_goes_on, test_stops, test_goes_on}
 use Rattle.calls.specs.Table.{too_many_calls, InOrder}
-use Rattle.acceptance.specs.Exactly.{accepted_is}
+use Rattle.acceptance.proofs.Exactly.{accepted_is}
 use Rattle.adding.specs.Adding.{not_one_call, no_room, new_row_checks, add_checks}
-use Rattle.adding.specs.AddingLaws.{short_calls, short_settings, short_moved, enough}
+use Rattle.adding.proofs.AddingLaws.{short_calls, short_settings, short_moved, enough}
 use Rattle.adding.proofs.refuse.Statement.{statement}
 use Rattle.adding.proofs.refuse.Tie as tie
 

@@ -9,7 +9,7 @@ use Rattle.choice.specs.Placement.{chain_places}
 use Rattle.shelf.specs.Network.{most_modules}
 use Rattle.adding.specs.Adding.{row_bytes}
 use Rattle.adding.specs.Steps.{rows_told}
-use Rattle.adding.specs.Telling.{row_bytes_length, told_length, told_next}
+use Rattle.adding.proofs.Telling.{row_bytes_length, told_length, told_next}
 use Rattle.adding.proofs.tell_rows.Statement.{statement}
 use Rattle.adding.proofs.tell_rows.Tie as tie
 

@@ -7,7 +7,7 @@ use native.Mathlib.Omega.{arith}
 use lib.ListN.{length}
 use borrow.Fn.Kinds.{In}
 use borrow.Fn.PlainCycle.{Measures, is, falls, and}
-use Rattle.choice.specs.Mending.{Stepping, mended_end, mended_on, mendable_on, some_left, tell_room}
+use Rattle.choice.proofs.Mending.{Stepping, mended_end, mended_on, mendable_on, some_left, tell_room}
 use Rattle.choice.proofs.chain_from_input.Reads as chain-from-input
 use Rattle.choice.proofs.chain_from_input.Kinds as chain-from-input-kinds
 use Rattle.choice.proofs.+chain_from_input_chain_from_output.Lts-chain_from_input as chain-from-input-lts

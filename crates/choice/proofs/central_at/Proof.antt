@@ -1,7 +1,7 @@
 -- `choice::central_at` meets its contract: the second byte of a row is its central.
 use mathlib.Core.Path.{sym}
 use borrow.Author.Rules.{rules}
-use Rattle.choice.specs.RowsLaws.{central_at}
+use Rattle.choice.proofs.RowsLaws.{central_at}
 use Rattle.choice.proofs.central_at.Statement.{statement}
 use Rattle.choice.proofs.central_at.Tie as tie
 

@@ -7,8 +7,8 @@ use Rattle.ground.specs.Words.{First}
 use Rattle.shelf.specs.Network.{most_modules, most_centrals}
 use Rattle.shelf.specs.NetworkLaws.{limits_are}
 use Rattle.choice.specs.Record.{modules_of_both, both_free}
-use Rattle.choice.specs.Search.{first_found, first_over}
-use Rattle.choice.specs.RecordLaws.{told_there, told_nothing, free_first}
+use Rattle.choice.proofs.Search.{first_found, first_over}
+use Rattle.choice.proofs.RecordLaws.{told_there, told_nothing, free_first}
 use Rattle.choice.proofs.first_common.Statement.{statement}
 use Rattle.choice.proofs.first_common.Tie as tie
 

@@ -8,7 +8,7 @@ use Rattle.shelf.specs.Order.{order}
 use Rattle.choice.specs.Rule.{first_of}
 use Rattle.choice.specs.Rows.{module_in}
 use Rattle.choice.specs.Record.{module_number, both_free, told_central}
-use Rattle.choice.specs.PlacementLaws.{small_modules, recordable_common, recorded_so_far, placed_common}
+use Rattle.choice.proofs.PlacementLaws.{small_modules, recordable_common, recorded_so_far, placed_common}
 use Rattle.choice.proofs.place.Statement.{statement}
 use Rattle.choice.proofs.place.Tie as tie
 

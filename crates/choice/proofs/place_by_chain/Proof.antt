@@ -8,7 +8,7 @@ use borrow.Author.Rules.{rules}
 use Rattle.shelf.specs.Network.{most_modules, most_centrals, most_calls}
 use Rattle.shelf.specs.NetworkLaws.{limits_are}
 use Rattle.choice.specs.Placement.{chain_places}
-use Rattle.choice.specs.PlacementLaws.{Searched, small_modules, small_a, small_b, mendable, chain_room, left_few, last_small, last_held, end_small, placed_by_chain}
+use Rattle.choice.proofs.PlacementLaws.{Searched, small_modules, small_a, small_b, mendable, chain_room, left_few, last_small, last_held, end_small, placed_by_chain}
 use Rattle.choice.proofs.place_by_chain.Statement.{statement}
 use Rattle.choice.proofs.place_by_chain.Tie as tie
 

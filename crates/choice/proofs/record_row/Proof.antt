@@ -7,7 +7,7 @@ use lib.ListN.{length}
 use Rattle.shelf.specs.Network.{most_modules, most_centrals}
 use Rattle.choice.specs.Rule.{at}
 use Rattle.choice.specs.Rows.{module_in, centrals_of}
-use Rattle.choice.specs.RecordLaws.{recorded_next}
+use Rattle.choice.proofs.RecordLaws.{recorded_next}
 use Rattle.choice.proofs.record_row.Statement.{statement}
 use Rattle.choice.proofs.record_row.Tie as tie
 

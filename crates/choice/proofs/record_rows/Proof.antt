@@ -5,7 +5,7 @@ use native.Mathlib.Omega.{arith}
 use Rattle.choice.specs.Rule.{at}
 use Rattle.choice.specs.Rows.{module_in, centrals_of}
 use Rattle.choice.specs.Record.{Recorded}
-use Rattle.choice.specs.RecordLaws.{nothing_recorded}
+use Rattle.choice.proofs.RecordLaws.{nothing_recorded}
 use Rattle.choice.proofs.record_rows.Statement.{statement}
 use Rattle.choice.proofs.record_rows.Tie as tie
 

@@ -7,7 +7,7 @@ use native.Mathlib.Omega.{arith}
 use lib.ListN.{length}
 use Rattle.choice.specs.Rule.{at, first_below, row_on}
 use Rattle.choice.specs.Rows.{module_in, centrals_of}
-use Rattle.choice.specs.Mending.{on_hit, on_miss, on_end}
+use Rattle.choice.proofs.Mending.{on_hit, on_miss, on_end}
 use Rattle.choice.proofs.row_on.Statement.{statement}
 use Rattle.choice.proofs.row_on.Tie as tie
 

@@ -1,7 +1,7 @@
 -- `conversion::convert` meets its contract: the reader's refusal, or what the last step answers of the layout that it tells.
 use mathlib.Core.Path.{sym, ◌∙◌}
 use borrow.Author.Rules.{rules}
-use Rattle.conversion.specs.ConversionLaws.{kept_converts, whole_laid, recast_converts}
+use Rattle.conversion.proofs.ConversionLaws.{kept_converts, whole_laid, recast_converts}
 use Rattle.conversion.proofs.convert.Statement.{statement}
 use Rattle.conversion.proofs.convert.Tie as tie
 

@@ -1,6 +1,6 @@
 -- `conversion::convert_to_new` meets its contract: an old file is converted to one with the cycle.
 use borrow.Author.Rules.{rules}
-use Rattle.conversion.specs.ConversionLaws.{with_kinds}
+use Rattle.conversion.proofs.ConversionLaws.{with_kinds}
 use Rattle.conversion.proofs.convert_to_new.Statement.{statement}
 use Rattle.conversion.proofs.convert_to_new.Tie as tie
 

@@ -1,6 +1,6 @@
 -- `conversion::convert_to_old` meets its contract: a new file is converted to one without the cycle.
 use borrow.Author.Rules.{rules}
-use Rattle.conversion.specs.ConversionLaws.{with_kinds}
+use Rattle.conversion.proofs.ConversionLaws.{with_kinds}
 use Rattle.conversion.proofs.convert_to_old.Statement.{statement}
 use Rattle.conversion.proofs.convert_to_old.Tie as tie
 

@@ -11,10 +11,10 @@ use Rattle.calls.specs.declared.Verdict.{Verdict}
 use Rattle.calls.specs.Verdict.{success, passed, in_turn}
 use Rattle.calls.specs.VerdictLaws.{test_stops, test_goes_on, test_passes}
 use Rattle.trailer.specs.File.{has_settings, kind_with, long_trailer, trailer_length}
-use Rattle.trailer.specs.FileLaws.{trailer_most}
+use Rattle.trailer.proofs.FileLaws.{trailer_most}
 use Rattle.planwriter.specs.Writer.{short_buffer, other_cycle}
 use Rattle.conversion.specs.Conversion.{recast_file, recast_checks}
-use Rattle.conversion.specs.ConversionLaws.{recast_length, recast_room, recast_fits, recast_is, recast_kept, recast_done}
+use Rattle.conversion.proofs.ConversionLaws.{recast_length, recast_room, recast_fits, recast_is, recast_kept, recast_done}
 use Rattle.conversion.proofs.recast.Statement.{statement}
 use Rattle.conversion.proofs.recast.Tie as tie
 

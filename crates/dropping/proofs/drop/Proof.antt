@@ -6,8 +6,8 @@ use borrow.Author.Rules.{rules}
 use Rattle.shelf.specs.Rows.{row_count}
 use Rattle.calls.specs.Verdict.{success}
 use Rattle.dropping.specs.Dropping.{without_row, Lent}
-use Rattle.dropping.specs.WithoutRow.{ClosesUp}
-use Rattle.dropping.specs.DroppingLaws.{can_drop, calls_close_up, settings_close_up, refused_drops, done_drops}
+use Rattle.dropping.proofs.WithoutRow.{ClosesUp}
+use Rattle.dropping.proofs.DroppingLaws.{can_drop, calls_close_up, settings_close_up, refused_drops, done_drops}
 use Rattle.dropping.proofs.drop.Statement.{statement}
 use Rattle.dropping.proofs.drop.Tie as tie
 

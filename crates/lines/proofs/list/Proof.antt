@@ -2,7 +2,7 @@
 use mathlib.Core.Path.{sym, ◌∙◌}
 use borrow.Author.Rules.{rules}
 use Rattle.shelf.specs.Network.{most_calls}
-use Rattle.trailer.specs.FileLaws.{longest_is}
+use Rattle.trailer.proofs.FileLaws.{longest_is}
 use Rattle.lines.specs.TextLaws.{too_long_is}
 use Rattle.lines.specs.Writing.{byte_digits, row_digits, number_digits, most_sizes, most_first_line, most_row_line, longest_listing}
 use Rattle.lines.specs.Listing.{long_listing, told_listing, lists}

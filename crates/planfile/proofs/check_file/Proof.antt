@@ -5,9 +5,9 @@ use Prim.Native.Nat.{ℕ}
 use borrow.Author.Rules.{rules}
 use Rattle.trailer.specs.declared.Trailer.TheVariants.{Whole}
 use Rattle.trailer.specs.Trailer.{trailer_verdict, layout_of, trailer_answer}
-use Rattle.trailer.specs.TrailerLaws.{trailer_passes, whole_case}
+use Rattle.trailer.proofs.TrailerLaws.{trailer_passes, whole_case}
 use Rattle.planfile.specs.Reader.{layout_checks}
-use Rattle.planfile.specs.ReaderLaws.{laid_out, trailer_refuses, rows_refuse, rows_pass}
+use Rattle.planfile.proofs.ReaderLaws.{laid_out, trailer_refuses, rows_refuse, rows_pass}
 use Rattle.planfile.proofs.check_file.Statement.{statement}
 use Rattle.planfile.proofs.check_file.Tie as tie
 

@@ -3,7 +3,7 @@ use native.Mathlib.Omega.{arith}
 use borrow.Author.Rules.{rules}
 use Rattle.ground.specs.Bytes.{part}
 use Rattle.ground.specs.BytesLaws.{length_part}
-use Rattle.trailer.specs.FileLaws.{rows_part}
+use Rattle.trailer.proofs.FileLaws.{rows_part}
 use Rattle.planfile.specs.Reader.{layout_checks}
 use Rattle.planfile.proofs.check_layout.Statement.{statement}
 use Rattle.planfile.proofs.check_layout.Tie as tie

@@ -4,7 +4,7 @@ use borrow.Author.Rules.{rules}
 use Rattle.trailer.specs.declared.Kinds.{Kinds}
 use Rattle.trailer.specs.Trailer.{told_by}
 use Rattle.planfile.specs.Reader.{file_answer, read_answer}
-use Rattle.planfile.specs.ReaderLaws.{reads}
+use Rattle.planfile.proofs.ReaderLaws.{reads}
 use Rattle.planfile.proofs.read.Statement.{statement}
 use Rattle.planfile.proofs.read.Tie as tie
 

@@ -4,7 +4,7 @@ use borrow.Author.Rules.{rules}
 use Rattle.shelf.specs.Network.{most_modules, most_centrals}
 use Rattle.choice.specs.Record.{modules_of_both, record_size, nothing_used}
 use Rattle.choice.specs.Placement.{chain_places}
-use Rattle.planner.specs.Answers.{ready, writable, moved_planned, written_planned}
+use Rattle.planner.proofs.PlannerLaws.{ready, writable, moved_planned, written_planned}
 use Rattle.planner.proofs.place_and_write.Statement.{statement}
 use Rattle.planner.proofs.place_and_write.Tie as tie
 

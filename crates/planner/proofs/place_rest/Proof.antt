@@ -8,7 +8,7 @@ use lib.Seq.{length-take-le}
 use Rattle.shelf.specs.Network.{most_modules, most_calls}
 use Rattle.shelf.specs.Rows.{row_count}
 use Rattle.choice.specs.Placement.{earlier}
-use Rattle.planner.specs.Placing.{SoFar, none_so_far, entered_length, placeable, next_so_far, moved_small, all_so_far}
+use Rattle.planner.proofs.Placing.{SoFar, none_so_far, entered_length, placeable, next_so_far, moved_small, all_so_far}
 use Rattle.planner.proofs.place_rest.Statement.{statement}
 use Rattle.planner.proofs.place_rest.Tie as tie
 

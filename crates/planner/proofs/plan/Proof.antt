@@ -5,7 +5,7 @@ use Prim.Native.Nat.{ℕ, ◌*◌}
 use lib.ListN.{drop}
 use borrow.Author.Rules.{rules}
 use Rattle.shelf.specs.Rows.{row_count}
-use Rattle.planner.specs.Answers.{plans_refused, room, plannable, plans_placed}
+use Rattle.planner.proofs.PlannerLaws.{plans_refused, room, plannable, plans_placed}
 use Rattle.planner.proofs.plan.Statement.{statement}
 use Rattle.planner.proofs.plan.Tie as tie
 

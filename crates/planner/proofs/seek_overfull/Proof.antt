@@ -14,7 +14,7 @@ use Rattle.calls.specs.VerdictLaws.{seek_bad, seek_good, seek_end}
 use Rattle.choice.specs.Colouring.{at_module}
 use Rattle.choice.specs.Record.{modules_of_both, module_number}
 use Rattle.planner.specs.Planner.{overfull, overfull_row}
-use Rattle.planner.specs.Tally.{Tally, number_below, no_calls, outputs_kept, inputs_now, outputs_now, tally_next, counts_small, overfull_input, overfull_output, not_overfull}
+use Rattle.planner.proofs.Tally.{Tally, number_below, no_calls, outputs_kept, inputs_now, outputs_now, tally_next, counts_small, overfull_input, overfull_output, not_overfull}
 use Rattle.planner.proofs.seek_overfull.Statement.{statement}
 use Rattle.planner.proofs.seek_overfull.Tie as tie
 

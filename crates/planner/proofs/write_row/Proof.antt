@@ -6,7 +6,7 @@ use native.Mathlib.Omega.{arith}
 use lib.ListN.{set, length-set}
 use borrow.Author.Rules.{rules}
 use Rattle.grating.specs.Grating.{wavelength_between}
-use Rattle.grating.specs.Laws.{between_below}
+use Rattle.grating.proofs.Laws.{between_below}
 use Rattle.shelf.specs.Network.{most_wavelengths}
 use Rattle.planner.proofs.write_row.Statement.{statement}
 use Rattle.planner.proofs.write_row.Tie as tie

@@ -9,7 +9,7 @@ use lib.ListN.{length, drop}
 use Rattle.choice.specs.Rule.{at}
 use Rattle.choice.specs.Rows.{module_in, centrals_of}
 use Rattle.planner.specs.Planner.{settings_rows}
-use Rattle.planner.specs.SettingsLaws.{passable_now, written_length, written_next, written_all}
+use Rattle.planner.proofs.SettingsLaws.{passable_now, written_length, written_next, written_all}
 use Rattle.planner.proofs.write_wavelengths.Statement.{statement}
 use Rattle.planner.proofs.write_wavelengths.Tie as tie
 

@@ -14,11 +14,11 @@ use Rattle.calls.specs.Verdict.{passed, in_turn}
 use Rattle.calls.specs.VerdictLaws.{turn_stops, turn_goes_on, turn_last, test_stops, test_goes_on, test_passes}
 use Rattle.calls.specs.Table.{size_checks}
 use Rattle.trailer.specs.File.{long_trailer, most_note, settings_per_call, file_of}
-use Rattle.trailer.specs.FileLaws.{trailer_most}
+use Rattle.trailer.proofs.FileLaws.{trailer_most}
 use Rattle.planfile.specs.Checks.{table_checks}
-use Rattle.planfile.specs.ChecksLaws.{Measured, measured, most_rows}
+use Rattle.planfile.proofs.ChecksLaws.{Measured, measured, most_rows}
 use Rattle.planwriter.specs.Writer.{long_note, short_buffer, other_cycle, untold_cycle, part_checks}
-use Rattle.planwriter.specs.WriterLaws.{room_test}
+use Rattle.planwriter.proofs.WriterLaws.{room_test}
 use Rattle.planwriter.proofs.check_parts.Statement.{statement}
 use Rattle.planwriter.proofs.check_parts.Tie as tie
 

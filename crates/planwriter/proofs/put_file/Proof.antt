@@ -8,7 +8,7 @@ use Rattle.ground.specs.Bytes.{part}
 use Rattle.ground.specs.BytesLaws.{adds_both, adds_length, adds_front, adds_same}
 use Rattle.shelf.specs.Rows.{row_count}
 use Rattle.trailer.specs.File.{long_trailer, trailer_length, trailer_of, file_of}
-use Rattle.trailer.specs.FileLaws.{trailer_most, length_trailer, trailer_rest, length_file}
+use Rattle.trailer.proofs.FileLaws.{trailer_most, length_trailer, trailer_rest, length_file}
 use Rattle.planwriter.proofs.put_file.Statement.{statement}
 use Rattle.planwriter.proofs.put_file.Tie as tie
 

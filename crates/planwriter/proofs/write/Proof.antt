@@ -2,7 +2,7 @@
 use borrow.Author.Rules.{rules}
 use Rattle.shelf.specs.Rows.{row_count}
 use Rattle.calls.specs.Verdict.{success}
-use Rattle.planwriter.specs.WriterLaws.{has_room, refused_writes, done_writes}
+use Rattle.planwriter.proofs.WriterLaws.{has_room, refused_writes, done_writes}
 use Rattle.planwriter.proofs.write.Statement.{statement}
 use Rattle.planwriter.proofs.write.Tie as tie
 

@@ -9,9 +9,9 @@ use borrow.Author.Rules.{rules}
 use borrow.Author.Tests.{not-true, not-false}
 use Rattle.ground.specs.Bytes.{part}
 use Rattle.trailer.specs.File.{has_cycle, takes, short_trailer, long_trailer, mark}
-use Rattle.trailer.specs.FileLaws.{long_length, trailer_most}
+use Rattle.trailer.proofs.FileLaws.{long_length, trailer_most}
 use Rattle.trailer.specs.Trailer.{twelve_in, told_kind, told_mark, kind_in, trailer_place, spare_in}
-use Rattle.trailer.specs.TrailerLaws.{not_ended, short_ended, long_ended}
+use Rattle.trailer.proofs.TrailerLaws.{not_ended, short_ended, long_ended}
 use Rattle.trailer.proofs.has_trailer.Statement.{statement}
 use Rattle.trailer.proofs.has_trailer.Tie as tie
 

@@ -8,7 +8,7 @@ use borrow.Author.Tests.{not-true, not-false}
 use Rattle.ground.specs.Bytes.{part}
 use Rattle.shelf.specs.Network.{of_sizes}
 use Rattle.trailer.specs.File.{has_cycle, short_trailer, long_trailer, trailer_length}
-use Rattle.trailer.specs.FileLaws.{long_length}
+use Rattle.trailer.proofs.FileLaws.{long_length}
 use Rattle.trailer.specs.Trailer.{twelve_in, told_kind, kind_in, trailer_place, cycle_in, told_net}
 use Rattle.trailer.proofs.network_in.Statement.{statement}
 use Rattle.trailer.proofs.network_in.Tie as tie

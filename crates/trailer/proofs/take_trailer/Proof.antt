@@ -15,9 +15,9 @@ use Rattle.calls.specs.Verdict.{in_turn}
 use Rattle.calls.specs.VerdictLaws.{test_stops, test_goes_on, test_passes}
 use Rattle.calls.specs.Table.{bad_sizes, too_many_calls}
 use Rattle.trailer.specs.File.{short_trailer, trailer_length}
-use Rattle.trailer.specs.FileLaws.{trailer_most}
+use Rattle.trailer.proofs.FileLaws.{trailer_most}
 use Rattle.trailer.specs.Trailer.{twelve_in, told_kind, told_count, told_settings_back, told_calls_back, kind_in, trailer_place, told_net, no_trailer, distances_told, bad_distances, trailer_verdict}
-use Rattle.trailer.specs.TrailerLaws.{Ended, ended_is, Distances, distances_are, settings_held, refused_apart, whole_apart}
+use Rattle.trailer.proofs.TrailerLaws.{Ended, ended_is, Distances, distances_are, settings_held, refused_apart, whole_apart}
 use Rattle.trailer.proofs.take_trailer.Statement.{statement}
 use Rattle.trailer.proofs.take_trailer.Tie as tie
 

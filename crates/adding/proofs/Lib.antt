@@ -1,0 +1,3 @@
+pub mod AddingLaws
+pub mod Entering
+pub mod Telling

@@ -1,0 +1,13 @@
+pub mod Agree
+pub mod Chain
+pub mod Count
+pub mod Exchange
+pub mod Mending
+pub mod Met
+pub mod PlacementLaws
+pub mod PlanLaws
+pub mod RecordLaws
+pub mod RowsLaws
+pub mod Search
+pub mod StepLaws
+pub mod UseAfter

@@ -1,0 +1,2 @@
+pub mod DroppingLaws
+pub mod WithoutRow

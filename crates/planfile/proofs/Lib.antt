@@ -1,0 +1,2 @@
+pub mod ChecksLaws
+pub mod ReaderLaws

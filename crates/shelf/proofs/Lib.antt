@@ -1,0 +1,3 @@
+pub mod Arrival
+pub mod Collisions
+pub mod LawfulLaws

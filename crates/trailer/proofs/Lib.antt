@@ -1,0 +1,3 @@
+pub mod FileLaws
+pub mod KindLaws
+pub mod TrailerLaws
