@@ -7,8 +7,8 @@ ghost use Rattle.std.specs.Prelude.{◌≡◌, map};
 ghost use Rattle.bench.specs.Bench.{bench_table};
 ghost use Rattle.bench.specs.Program.{part_of};
 
-use libc::STDOUT_FILENO;
 use shelf::Network;
+use std::io::{self, Write};
 
 // The parts of the bench table; the most rows that one of them has, and the bytes of the buffer that rooms are lent from.
 const PARTS: usize = 19;
@@ -144,13 +144,15 @@ const TABLE: [Part; PARTS] = [
     },
 ];
 
-fn main() {
+fn main(rt: HostRuntime) -> io::Result<()> {
+    let mut out = rt.stdout();
     let parts = bench_table();
     let mut i = 0;
     while i < PARTS {
-        show(parts[i]);
+        show(&mut out, parts[i])?;
         i += 1;
     }
+    Ok(())
 }
 
 // The bench table.
@@ -161,14 +163,13 @@ fn bench_table() -> [Part; PARTS]
 }
 
 // Prints the number of a part's case, and whether the compiled entry answers as it is written.
-fn show(part: Part) {
+fn show<W: Write>(out: &mut W, part: Part) -> io::Result<()> {
     let head = part.head;
-    io::write_all(STDOUT_FILENO, b"case ");
-    io::print_decimal(STDOUT_FILENO, head[CASE_AT] as u64);
+    let case = head[CASE_AT];
     if is_answered(part) {
-        io::write_all(STDOUT_FILENO, b" as written\n");
+        writeln!(out, "case {case} as written")
     } else {
-        io::write_all(STDOUT_FILENO, b" NOT as written\n");
+        writeln!(out, "case {case} NOT as written")
     }
 }
 
@@ -227,7 +228,7 @@ fn is_planned(head: &[u8; 10], calls: &[u8], after: &[u8; MOST_ROOM]) -> bool {
 
 // Whether two buffers hold the same bytes.
 fn is_same(a: &[u8; MOST_ROOM], b: &[u8; MOST_ROOM]) -> bool {
-    check::same(a, b)
+    a == b
 }
 
 // Whether acceptance, given these calls and settings, answers as it is written. It is lent nothing that it could write.

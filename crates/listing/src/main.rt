@@ -2,12 +2,31 @@
 // than the longest file has is read, so that a file that is too long is told from others.
 #![tactic(auto)]
 
-use libc::{STDIN_FILENO, STDOUT_FILENO};
+ghost use Rattle.std.specs.Prelude.{◌≤◌, IfOk, length};
 
-fn main() {
+use std::io::{self, Read, Write};
+
+fn main(rt: HostRuntime) -> io::Result<()> {
+    let mut input = rt.stdin();
+    let mut out = rt.stdout();
     let mut file = [0u8; trailer::LONGEST_FILE + 1];
-    let size = io::read_full(STDIN_FILENO, &mut file);
+    let size = fill(&mut input, &mut file)?;
     let mut text = [0u8; lines::LONGEST_LISTING];
     let end = lines::list(&file[..size], &mut text);
-    io::write_all(STDOUT_FILENO, &text[..end]);
+    out.write_all(&text[..end])
+}
+
+// Reads until the buffer is full or the input ends, and tells how many bytes stand at its front.
+fn fill<R: Read>(input: &mut R, buffer: &mut [u8]) -> io::Result<usize>
+    ensures { IfOk result (λ size. size ≤ length buffer.new) }
+{
+    let mut size = 0;
+    while size < buffer.len() {
+        let count = input.read(&mut buffer[size..])?;
+        if count == 0 {
+            return Ok(size);
+        }
+        size += count;
+    }
+    Ok(size)
 }

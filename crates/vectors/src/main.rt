@@ -9,9 +9,9 @@
 ghost use Rattle.std.specs.Prelude.{◌+◌, ◌≤◌, T, length};
 
 use calls::Verdict;
-use libc::{STDIN_FILENO, STDOUT_FILENO};
 use planner::Planned;
 use shelf::Network;
+use std::io::{self, Read, Write};
 
 // The entries, by the first byte of an input. Any other byte is a planned file to be written.
 const PLAN: u8 = 0;
@@ -68,38 +68,57 @@ const PAIRS: usize = 65536;
 // What the buffer of a listing holds before: no byte of a text.
 const FILLED: u8 = 0xA5;
 
+// The bytes of a buffer for the parts of an input, and of each room.
+const BUFFER: usize = 65536;
+
 // More inputs than these are not answered.
 const MOST_INPUTS: usize = 65536;
 
-fn main() {
-    let mut parts = io::large_buffer();
-    let mut first = io::large_buffer();
-    let mut second = io::large_buffer();
-    let mut third = io::large_buffer();
+fn main(rt: HostRuntime) -> io::Result<()> {
+    let mut input = rt.stdin();
+    let mut out = rt.stdout();
+    let mut parts = [0u8; BUFFER];
+    let mut first = [0u8; BUFFER];
+    let mut second = [0u8; BUFFER];
+    let mut third = [0u8; BUFFER];
     let mut left = MOST_INPUTS;
     while left > 0 {
-        left = if answer_next(&mut parts, &mut first, &mut second, &mut third) {
-            left - 1
-        } else {
-            0
-        };
+        let answered = answer_next(
+            &mut input,
+            &mut out,
+            &mut parts,
+            &mut first,
+            &mut second,
+            &mut third,
+        )?;
+        left = if answered { left - 1 } else { 0 };
     }
+    Ok(())
 }
 
 // Answers the next input; false where none is left, or none that the buffers have room for.
-fn answer_next(parts: &mut [u8], first: &mut [u8], second: &mut [u8], third: &mut [u8]) -> bool {
+fn answer_next<R: Read, W: Write>(
+    input: &mut R,
+    out: &mut W,
+    parts: &mut [u8],
+    first: &mut [u8],
+    second: &mut [u8],
+    third: &mut [u8],
+) -> io::Result<bool> {
     let mut head = [0u8; HEAD];
-    if !fill(&mut head) {
-        return false;
+    if !fill(input, &mut head) {
+        return Ok(false);
     }
     let note_end = ground::number_at(&head, NOTE_AT);
     let calls_end = note_end + ground::number_at(&head, CALLS_AT);
     let settings_end = calls_end + ground::number_at(&head, SETTINGS_AT);
-    if !fill_front(parts, settings_end) {
-        return false;
+    if !fill_front(input, parts, settings_end) {
+        return Ok(false);
     }
     let whole = &parts[..];
     answer_with_rooms(
+        input,
+        out,
         &head,
         &whole[..note_end],
         &whole[note_end..calls_end],
@@ -111,7 +130,9 @@ fn answer_next(parts: &mut [u8], first: &mut [u8], second: &mut [u8], third: &mu
 }
 
 // The same, when head and parts are read and the rooms are still to come.
-fn answer_with_rooms(
+fn answer_with_rooms<R: Read, W: Write>(
+    input: &mut R,
+    out: &mut W,
     head: &[u8; HEAD],
     note: &[u8],
     calls: &[u8],
@@ -119,20 +140,21 @@ fn answer_with_rooms(
     first: &mut [u8],
     second: &mut [u8],
     third: &mut [u8],
-) -> bool {
+) -> io::Result<bool> {
     let first_end = ground::number_at(head, FIRST_AT);
-    if !fill_front(first, first_end) {
-        return false;
+    if !fill_front(input, first, first_end) {
+        return Ok(false);
     }
     let second_end = ground::number_at(head, SECOND_AT);
-    if !fill_front(second, second_end) {
-        return false;
+    if !fill_front(input, second, second_end) {
+        return Ok(false);
     }
     let third_end = ground::number_at(head, THIRD_AT);
-    if !fill_front(third, third_end) {
-        return false;
+    if !fill_front(input, third, third_end) {
+        return Ok(false);
     }
     answer(
+        out,
         head,
         note,
         calls,
@@ -140,23 +162,23 @@ fn answer_with_rooms(
         &mut first[..first_end],
         &mut second[..second_end],
         &mut third[..third_end],
-    );
-    true
+    )?;
+    Ok(true)
 }
 
 // Whether the standard input filled the front of the buffer, up to `end`.
-fn fill_front(buffer: &mut [u8], end: usize) -> bool
+fn fill_front<R: Read>(input: &mut R, buffer: &mut [u8], end: usize) -> bool
     ensures { T result → end ≤ length buffer.new }
 {
     if buffer.len() < end {
         return false;
     }
-    fill(&mut buffer[..end])
+    fill(input, &mut buffer[..end])
 }
 
 // Whether the standard input filled all of the buffer.
-fn fill(buffer: &mut [u8]) -> bool {
-    io::read_full(STDIN_FILENO, buffer) == buffer.len()
+fn fill<R: Read>(input: &mut R, buffer: &mut [u8]) -> bool {
+    input.read_exact(buffer).is_ok()
 }
 
 // The size that stands at a position of a head: eight bytes, the high byte first.
@@ -171,7 +193,8 @@ fn size_at(bytes: &[u8], at: usize) -> usize
 }
 
 // Lets the entry of a head answer, and prints the line.
-fn answer(
+fn answer<W: Write>(
+    out: &mut W,
     head: &[u8; HEAD],
     note: &[u8],
     calls: &[u8],
@@ -179,7 +202,7 @@ fn answer(
     first: &mut [u8],
     second: &mut [u8],
     third: &mut [u8],
-) {
+) -> io::Result<()> {
     let net = Network {
         n: size_at(head, N_AT),
         m: size_at(head, M_AT),
@@ -188,46 +211,50 @@ fn answer(
     };
     let entry = head[0];
     if entry == ADD {
-        show_planned(adding::add(net, calls, settings, note, first, second, third));
-        return end_line(first, second, third);
+        let planned = adding::add(net, calls, settings, note, first, second, third);
+        show_planned(out, planned)?;
+        return end_line(out, first, second, third);
     }
     if entry == DROP {
         let row = size_at(head, ROW_AT);
-        show_verdict(dropping::drop(net, calls, settings, row, first, second));
-        return end_line(first, second, third);
+        let verdict = dropping::drop(net, calls, settings, row, first, second);
+        show_verdict(out, verdict)?;
+        return end_line(out, first, second, third);
     }
-    answer_table(entry, net, note, calls, settings, first);
-    end_line(first, second, third);
+    answer_table(out, entry, net, note, calls, settings, first)?;
+    end_line(out, first, second, third)
 }
 
 // The same for an entry that is lent one buffer at most, up to the bytes of its room.
-fn answer_table(
+fn answer_table<W: Write>(
+    out: &mut W,
     entry: u8,
     net: Network,
     note: &[u8],
     calls: &[u8],
     settings: &[u8],
     room: &mut [u8],
-) {
+) -> io::Result<()> {
     if entry == PLAN {
-        return show_planned(planner::plan(net, calls, room));
+        return show_planned(out, planner::plan(net, calls, room));
     }
     if entry == ACCEPT {
-        return show_verdict(acceptance::accept(net, calls, settings));
+        return show_verdict(out, acceptance::accept(net, calls, settings));
     }
     if entry == READ {
-        return show_told(planfile::read(calls));
+        return show_told(out, planfile::read(calls));
     }
     if entry == LIST {
-        return show_listing(calls);
+        return show_listing(out, calls);
     }
     if entry == CONVERT_TO_NEW {
-        return show_verdict(conversion::convert_to_new(calls, room));
+        return show_verdict(out, conversion::convert_to_new(calls, room));
     }
     if entry == CONVERT_TO_OLD {
-        return show_verdict(conversion::convert_to_old(calls, room));
+        return show_verdict(out, conversion::convert_to_old(calls, room));
     }
-    show_verdict(written(entry, net, note, calls, settings, room));
+    let verdict = written(entry, net, note, calls, settings, room);
+    show_verdict(out, verdict)
 }
 
 // What the writer answers that the entry names.
@@ -252,12 +279,12 @@ fn written(
 }
 
 // Prints the numbers and the text of a listing.
-fn show_listing(file: &[u8]) {
+fn show_listing<W: Write>(out: &mut W, file: &[u8]) -> io::Result<()> {
     let mut text = [FILLED; lines::LONGEST_LISTING];
     let size = lines::list(file, &mut text);
-    show(size);
-    show(changed(&text[size..]));
-    show_bytes(&text[..size]);
+    show(out, size)?;
+    show(out, changed(&text[size..]))?;
+    show_bytes(out, &text[..size])
 }
 
 // How many bytes are not as the buffer of a listing was filled.
@@ -274,56 +301,61 @@ fn changed(bytes: &[u8]) -> usize {
 }
 
 // Prints number, row and moved count.
-fn show_planned(planned: Planned) {
-    show(planned.number);
-    show(planned.row);
-    show(planned.moved);
+fn show_planned<W: Write>(out: &mut W, planned: Planned) -> io::Result<()> {
+    show(out, planned.number)?;
+    show(out, planned.row)?;
+    show(out, planned.moved)
 }
 
 // Prints number and row.
-fn show_verdict(verdict: Verdict) {
-    show(verdict.number);
-    show(verdict.row);
+fn show_verdict<W: Write>(out: &mut W, verdict: Verdict) -> io::Result<()> {
+    show(out, verdict.number)?;
+    show(out, verdict.row)
 }
 
 // Prints all that a reader tells.
-fn show_told(told: trailer::Told) {
-    show(told.number);
-    show(told.row);
-    show(told.n);
-    show(told.m);
-    show(told.r);
-    show(told.w);
-    show(told.kind);
-    show(told.count);
-    show(told.note_at);
-    show(told.calls_at);
-    show(told.settings_at);
+fn show_told<W: Write>(out: &mut W, told: trailer::Told) -> io::Result<()> {
+    show(out, told.number)?;
+    show(out, told.row)?;
+    show(out, told.n)?;
+    show(out, told.m)?;
+    show(out, told.r)?;
+    show(out, told.w)?;
+    show(out, told.kind)?;
+    show(out, told.count)?;
+    show(out, told.note_at)?;
+    show(out, told.calls_at)?;
+    show(out, told.settings_at)
 }
 
 // Prints a number and a space.
-fn show(number: usize) {
-    io::print_decimal(STDOUT_FILENO, number as u64);
-    io::write_all(STDOUT_FILENO, b" ");
+fn show<W: Write>(out: &mut W, number: usize) -> io::Result<()> {
+    write!(out, "{number} ")
 }
 
 // Prints the bytes of the rooms, and ends the line.
-fn end_line(first: &[u8], second: &[u8], third: &[u8]) {
-    show_bytes(first);
-    show_bytes(second);
-    show_bytes(third);
-    io::write_all(STDOUT_FILENO, b"\n");
+fn end_line<W: Write>(
+    out: &mut W,
+    first: &[u8],
+    second: &[u8],
+    third: &[u8],
+) -> io::Result<()> {
+    show_bytes(out, first)?;
+    show_bytes(out, second)?;
+    show_bytes(out, third)?;
+    out.write_all(b"\n")
 }
 
 // Prints bytes, each by two hexadecimal digits.
-fn show_bytes(bytes: &[u8]) {
+fn show_bytes<W: Write>(out: &mut W, bytes: &[u8]) -> io::Result<()> {
     let mut i = 0;
     while i < bytes.len() {
-        show_byte(bytes[i]);
+        show_byte(out, bytes[i])?;
         i += 1;
     }
+    Ok(())
 }
 
-fn show_byte(byte: u8) {
-    io::print_hex(STDOUT_FILENO, byte as u64, 2);
+fn show_byte<W: Write>(out: &mut W, byte: u8) -> io::Result<()> {
+    write!(out, "{byte:02x}")
 }
