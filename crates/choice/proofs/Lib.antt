@@ -3,7 +3,7 @@ pub mod Chain
 pub mod Count
 pub mod Exchange
 pub mod Mending
-pub mod Met
+pub mod NotYetMet
 pub mod PlacementLaws
 pub mod PlanLaws
 pub mod RecordLaws

@@ -76,7 +76,7 @@ fn place_by_chain(
 // The chain from the output module of the row `from`, which takes `central` and has another one so far: the call that stands there on
 // `central` takes that other one, and the chain goes on from that call's input module. Where none stands there, the search tells the
 // last row, and the chain has ended. `left` is the number of the modules not yet met, of both sides: it falls with each call, and is
-// never what ends a chain (specs/Met.antt). The rows are told in `chain`, each at the place of the number left after it; what is told
+// never what ends a chain (proofs/NotYetMet.antt). The rows are told in `chain`, each at the place of the number left after it; what is told
 // back is the number left at the end. A chain has a frame on the stack for each of its calls, so nothing is kept in it for afterwards.
 #[cycle(chain_from_input_chain_from_output)]
 fn chain_from_output(
