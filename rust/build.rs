@@ -1,5 +1,5 @@
 //! Tells the linker where the static library stands: in the directory that `BOLIKWARU_LIBRARY`
-//! names, or where `rt staticlib exported` puts it in this repository.
+//! names, or where `rt lib` in `crates/exported` puts it in this repository.
 
 use std::env;
 use std::path::PathBuf;
@@ -10,8 +10,9 @@ fn main() {
         Some(named) => PathBuf::from(named),
         None => PathBuf::from(env::var_os("CARGO_MANIFEST_DIR").unwrap_or_default())
             .join("..")
-            .join("target")
-            .join("staticlib"),
+            .join("crates")
+            .join("exported")
+            .join("out"),
     };
     println!("cargo:rustc-link-search=native={}", directory.display());
     println!("cargo:rustc-link-lib=static=exported");
