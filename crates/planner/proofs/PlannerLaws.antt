@@ -5,7 +5,7 @@
 --   plans_placed        == success has the guarantee where the settings were written
 --   moved_planned       == and the calls moved are those that the planner owes
 --   room, written_planned == the buffer is long enough, and the rows become the settings
-use Rattle.std.specs.Prelude.{◌≡◌, Bool, true, false, ℕ, ◌+◌, ◌*◌, ◌/◌, ◌≤◌, take, drop}
+use Rattle.std.specs.Prelude.{◌≡◌, Bool, true, false, ℕ, ◌*◌, ◌/◌, ◌≤◌, take, drop}
 use Rattle.std.proofs.Common.{sym, ◌∙◌, arith}
 use Rattle.std.proofs.Math.Path.{ap}
 use mathlib.Core.List.{List, ◌++◌}
