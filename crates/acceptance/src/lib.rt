@@ -1,5 +1,5 @@
 // Acceptance of settings: any bytes are answered, with a number and a row. For a call table in order the number is 0 exactly
-// when the settings are lawful, which is proved from how light travels (specs/Exactly.antt).
+// when the settings are lawful, which is proved from how light travels (proofs/Exactly.antt).
 #![tactic(auto)]
 
 ghost use Rattle.std.specs.Prelude.{◌≡◌, ℕ, ◌*◌, ◌<◌, T, length};

@@ -1,5 +1,5 @@
 // One placement of the choice rule: the first common central by a record of use, else the chain that exchanges two centrals.
-// The rule itself, and that it keeps any proper colouring proper, are definitions and laws in specs/.
+// The rule itself, and that it keeps any proper colouring proper, are definitions in specs/ and laws in proofs/.
 //
 // The calls placed so far lie in one slice of rows of three bytes: input module, central, output module.
 #![tactic(auto)]

@@ -1,5 +1,5 @@
 // Conversions of plan files: of old files to new ones, which hold the cycle, and of new files to old ones. Any bytes are converted or
-// refused. That there and back gives the first file's bytes is a law over the two (specs/ThereAndBack.antt).
+// refused. That there and back gives the first file's bytes is a law over the two (proofs/ThereAndBack.antt).
 #![tactic(auto)]
 
 ghost use Rattle.std.specs.Prelude.{true, false, ◌≤◌, length};

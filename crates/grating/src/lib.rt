@@ -1,6 +1,6 @@
 // The grating rule: where a wavelength leaves one grating, and which wavelength leads from one port to another.
 // A grating has a cycle: its wavelengths and its ports are numbered from 0 to the cycle less 1. Crates above rely on
-// the two promises below and on the laws of specs/Laws.antt. This crate is no entry for outside callers.
+// the two promises below and on the laws of proofs/Laws.antt. This crate is no entry for outside callers.
 #![tactic(auto)]
 
 ghost use Rattle.std.specs.Prelude.{◌≡◌, ◌<◌};

@@ -1,3 +1,3 @@
-// What holds of any history of adds and drops: definitions and laws alone, in specs/.
+// What holds of any history of adds and drops: definitions alone, in specs/, and laws, in proofs/.
 #![tactic(auto)]
 

@@ -1,5 +1,5 @@
 // The writers of plan files, one for each kind: any parts are written or refused. How a file is laid out is stated once, by the crate `trailer`, and
-// that files read back as written is a law over reader and writers (specs/RoundTrips.antt).
+// that files read back as written is a law over reader and writers (proofs/RoundTrips.antt).
 #![tactic(auto)]
 
 ghost use Rattle.std.specs.Prelude.{◌∷◌, ◌≡◌, ◌≤◌, ◌<◌, T, length};
