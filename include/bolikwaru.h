@@ -1,6 +1,6 @@
 /* Bolikwaru for C: plans settings for a wavelength cross-connect shelf, judges settings, adds and drops single calls, reads, writes
    and converts plan files.
-   Link target/staticlib/libexported.a (x86-64 Linux). Every answer is proved for all numbers and all bytes; the promises
+   Link crates/exported/out/libexported.a (x86-64 Linux). Every answer is proved for all numbers and all bytes; the promises
    stand in crates/exported/src/lib.rt, and this header is kept by hand beside them.
 
    A buffer is handed over as a pointer and a length in bytes; where the length is 0 any pointer will do, also null. A buffer
