@@ -50,6 +50,7 @@ first_behind [] later c test fails passes = rw passes
 first_behind (d ∷ earlier) later c test fails passes = rw (fails d (here refl)) (first_behind earlier later c test (λ e p. fails e (there p)) passes)
 
 in_front : {x : ℕ} (xs ys : List ℕ) → In x xs → In x (xs ++ ys)
+in_front [] ys p = elim p [ ]
 in_front (y ∷ xs) ys (here e) = here e
 in_front (y ∷ xs) ys (there p) = there (in_front xs ys p)
 
