@@ -28,7 +28,7 @@ pub fn add(
     settings_after: &mut [u8],
     moved_rows: &mut [u8],
 ) -> Planned
-    ensures { AddsCall net calls.entry.now settings.now call.now (record { calls = calls_after.old; settings = settings_after.old; moved = moved_rows.old }) (record { calls = calls_after.new; settings = settings_after.new; moved = moved_rows.new }) result }
+    ensures { AddsCall net calls.now settings.now call.now (record { calls = calls_after.old; settings = settings_after.old; moved = moved_rows.old }) (record { calls = calls_after.new; settings = settings_after.new; moved = moved_rows.new }) result }
 {
     let refusal = refuse(
         net,

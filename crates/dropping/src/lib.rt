@@ -21,7 +21,7 @@ pub fn drop(
     calls_after: &mut [u8],
     settings_after: &mut [u8],
 ) -> Verdict
-    ensures { DropsCall net calls.entry.now settings.now row (record { calls = calls_after.old; settings = settings_after.old }) (record { calls = calls_after.new; settings = settings_after.new }) result }
+    ensures { DropsCall net calls.now settings.now row (record { calls = calls_after.old; settings = settings_after.old }) (record { calls = calls_after.new; settings = settings_after.new }) result }
 {
     let refusal = refuse(
         net,
