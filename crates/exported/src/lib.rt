@@ -44,7 +44,7 @@ pub extern "C" fn bolikwaru_add(
     settings_after: &mut [u8],
     moved_rows: &mut [u8],
 ) -> Planned
-    ensures { AddsCall net calls.entry.now settings.now call.now (record { calls = calls_after.old; settings = settings_after.old; moved = moved_rows.old }) (record { calls = calls_after.new; settings = settings_after.new; moved = moved_rows.new }) result }
+    ensures { AddsCall net calls.now settings.now call.now (record { calls = calls_after.old; settings = settings_after.old; moved = moved_rows.old }) (record { calls = calls_after.new; settings = settings_after.new; moved = moved_rows.new }) result }
 {
     adding::add(
         net,
@@ -67,7 +67,7 @@ pub extern "C" fn bolikwaru_drop(
     calls_after: &mut [u8],
     settings_after: &mut [u8],
 ) -> Verdict
-    ensures { DropsCall net calls.entry.now settings.now row (record { calls = calls_after.old; settings = settings_after.old }) (record { calls = calls_after.new; settings = settings_after.new }) result }
+    ensures { DropsCall net calls.now settings.now row (record { calls = calls_after.old; settings = settings_after.old }) (record { calls = calls_after.new; settings = settings_after.new }) result }
 {
     dropping::drop(net, calls, settings, row, calls_after, settings_after)
 }
