@@ -334,12 +334,7 @@ fn show<W: Write>(out: &mut W, number: usize) -> io::Result<()> {
 }
 
 // Prints the bytes of the rooms, and ends the line.
-fn end_line<W: Write>(
-    out: &mut W,
-    first: &[u8],
-    second: &[u8],
-    third: &[u8],
-) -> io::Result<()> {
+fn end_line<W: Write>(out: &mut W, first: &[u8], second: &[u8], third: &[u8]) -> io::Result<()> {
     show_bytes(out, first)?;
     show_bytes(out, second)?;
     show_bytes(out, third)?;
