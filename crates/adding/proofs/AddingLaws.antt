@@ -258,14 +258,6 @@ module _ (net : Network) (calls settings call : List ℕ) (before after : Lent) 
   unfolding add_answer add_verdict success
   tells z = ap (λ (p : Planned). p.row) answer ∙ ap (λ (v : Verdict). v.row) (answer_success _ (suc (row_count calls)) (sym number_is ∙ z))
 
-  made : a.number ≡ 0 → after ≡ record {
-    calls = front before.calls (calls ++ call);
-    settings = front before.settings (added_settings net calls settings call);
-    moved = front before.moved (row_bytes (add_step net calls settings call).moved);
-  }
-  unfolding add_buffers
-  made z = buffers ∙ rw (eq-eqb _ 0 (sym number_is ∙ z))
-
   moves : a.number ≡ 0 → a.moved ≡ length (add_step net calls settings call).moved
   unfolding add_answer
   moves z = ap (λ (p : Planned). p.moved) answer ∙ rw (eq-eqb _ 0 (sym number_is ∙ z))
@@ -274,10 +266,10 @@ module _ (net : Network) (calls settings call : List ℕ) (before after : Lent) 
       → (take (4 * a.row) after.calls ≡ calls ++ call)
       × (take (3 * a.row) after.settings ≡ added_settings net calls settings call)
       × (take (2 * a.moved) after.moved ≡ row_bytes (add_step net calls settings call).moved)
-  unfolding added_settings
+  unfolding added_settings add_buffers
   written z =
       let given = (added z).0 in
-      rw (made z, tells z, moves z) (
+      rw (buffers, eq-eqb _ 0 (sym number_is ∙ z), tells z, moves z) (
         take_front before.calls _ (4 * suc (row_count calls)) (length-append calls call ∙ omega (arith, whole net calls settings call given, given.1)),
         take_front before.settings _ (3 * suc (row_count calls)) (settings_length (cycle net) (α (calls ++ call)) (β (calls ++ call)) _ (suc (row_count calls))),
         take_front before.moved _ _ (row_bytes_length (add_step net calls settings call).moved),

@@ -30,7 +30,8 @@ use Rattle.choice.proofs.RecordLaws.{recorded_same}
 use Rattle.choice.specs.Placement.{chain_places, telling, earlier}
 use Rattle.choice.proofs.StepLaws.{step_fine, step_moved}
 use Rattle.adding.specs.Moving.{step_moves, moves_few}
-use Rattle.choice.proofs.Agree.{Agree, recorded_agree}
+use Rattle.choice.specs.Agree.{Agree}
+use Rattle.choice.proofs.Agree.{recorded_agree}
 use Rattle.planner.specs.Planner.{settings_rows}
 use Rattle.planner.specs.Steps.{planned, Ready, AllPlaced, Writable}
 use Rattle.planner.proofs.Continuing.{on_start, on_next}

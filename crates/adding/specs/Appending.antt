@@ -26,7 +26,8 @@ use Rattle.calls.specs.Table.{outside, outside_call, point_used, PointRead, Insi
 use Rattle.calls.specs.TableLaws.{outside_read}
 use Rattle.choice.specs.Colouring.{at_module, Fits}
 use Rattle.choice.proofs.Count.{count_here}
-use Rattle.choice.proofs.Agree.{Agree, count_agree}
+use Rattle.choice.specs.Agree.{Agree}
+use Rattle.choice.proofs.Agree.{count_agree}
 use Rattle.planner.specs.Planner.{overfull}
 use Rattle.planner.proofs.Overfull.{fits_is}
 

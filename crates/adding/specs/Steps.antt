@@ -17,7 +17,7 @@ use Rattle.calls.specs.Table.{Inside, InOrder}
 use Rattle.choice.specs.Rule.{at, step, Step}
 use Rattle.choice.specs.Colouring.{at_module, Fine}
 use Rattle.choice.specs.Rows.{module_in, centrals_of}
-use Rattle.choice.proofs.Agree.{Agree}
+use Rattle.choice.specs.Agree.{Agree}
 use Rattle.choice.specs.Placement.{chain_places}
 use Rattle.planner.specs.Planner.{settings_rows}
 use Rattle.adding.specs.Adding.{row_bytes}

@@ -1,5 +1,4 @@
 -- Only the rows that are placed matter: sides that agree on them have the same colourings, the same counts and the same step.
---   Agree f g k         == f and g have the same values below k
 --   free_agree, count_agree, fine_agree == what is free, how many calls a module has, and a fine colouring
 --   recorded_agree      == a record of the one is a record of the other
 --   step_agree          == a step of the choice rule
@@ -10,12 +9,10 @@ use Rattle.std.proofs.Math.Option.{Option, none, some}
 use mathlib.Core.List.{List, [], ◌∷◌, ◌++◌}
 use Rattle.ground.specs.BelowLaws.{once_same}
 use Rattle.choice.specs.Rule.{at, first_below, first_of, row_on, is_none, is_free, chain, exchanged, step, by_chain}
+use Rattle.choice.specs.Agree.{Agree}
 use Rattle.choice.specs.Colouring.{rows_below, at_module, Fine}
 use Rattle.choice.specs.Record.{Recorded}
 use Rattle.choice.proofs.Search.{Standing, row, free, standing}
-
-abbrev pub Agree : (f g : ℕ → ℕ) → ℕ → Type 0
-Agree f g k = (i : ℕ) → i < k → f i ≡ g i
 
 -- two tests that agree below k
 first_agree : (k : ℕ) (p q : ℕ → Bool) → ((i : ℕ) → i < k → p i ≡ q i) → first_below k p ≡ first_below k q

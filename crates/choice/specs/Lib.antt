@@ -3,3 +3,4 @@ pub mod Colouring
 pub mod Rows
 pub mod Record
 pub mod Placement
+pub mod Agree

@@ -45,7 +45,7 @@ is_free f γ k v c = is_none (row_on f γ k v c)
 -- "A chain .. runs from the output module to an input module and back, over calls placed so far: first the call at β on a,
 -- then at its input module the call on b, then at its output module the call on a, until none continues it."
 -- At module v of the side h the call on c; at its module of the other side, f, the call on d; and so on. The first argument
--- lets the recursion end; that it is never what ends a chain is the law `Chain-runs`.
+-- lets the recursion end; that it is never what ends a chain is the law `chain_runs`.
 unfoldable pub chain : ℕ → (h f γ : ℕ → ℕ) (k v c d : ℕ) → List ℕ
 chain zero h f γ k v c d = []
 chain (suc n) h f γ k v c d = elim (row_on h γ k v c) [ none ↦ [] | some e ↦ e ∷ chain n f h γ k (f e) d c ]

@@ -1,2 +1,2 @@
-// What holds of any history of adds and drops: definitions alone, in specs/, and laws, in proofs/.
+// What holds of any history of adds and drops: definitions and laws alone, in specs/ and proofs/.
 #![tactic(auto)]

@@ -30,7 +30,8 @@ use Rattle.choice.specs.Placement.{chain_places, telling, earlier, step_in, Plac
 use Rattle.choice.proofs.Count.{count_here}
 use Rattle.choice.proofs.PlanLaws.{moved_more}
 use Rattle.choice.proofs.RowsLaws.{centrals_length, front_centrals}
-use Rattle.choice.proofs.Agree.{Agree, count_agree, fine_agree, recorded_agree, step_agree}
+use Rattle.choice.specs.Agree.{Agree}
+use Rattle.choice.proofs.Agree.{count_agree, fine_agree, recorded_agree, step_agree}
 use Rattle.choice.proofs.Mending.{telling_length}
 use Rattle.planner.specs.Steps.{planned, Ready, Told, AllPlaced}
 use Rattle.planner.proofs.Continuing.{on_start, on_next, on_fine, on_moved}

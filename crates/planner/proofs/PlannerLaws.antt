@@ -27,7 +27,7 @@ use Rattle.choice.specs.Placement.{chain_places, earlier}
 use Rattle.choice.specs.Record.{nothing_used}
 use Rattle.choice.proofs.RecordLaws.{nothing_recorded}
 use Rattle.choice.specs.Colouring.{Fine}
-use Rattle.choice.proofs.Agree.{Agree}
+use Rattle.choice.specs.Agree.{Agree}
 use Rattle.choice.specs.Rows.{module_in, centrals_of}
 use Rattle.choice.proofs.RowsLaws.{central_at}
 use Rattle.planner.specs.Planner.{settings_rows, planner_checks, planner_verdict, chosen, planned_settings, planned_moved, plan_answer, plan_buffer, Plans}

@@ -30,7 +30,7 @@ use Rattle.choice.specs.Rule.{at}
 use Rattle.choice.specs.Colouring.{Fine}
 use Rattle.choice.specs.Rows.{module_in, centrals_of}
 use Rattle.choice.proofs.RowsLaws.{row_bytes_lem, central_at}
-use Rattle.choice.proofs.Agree.{Agree}
+use Rattle.choice.specs.Agree.{Agree}
 use Rattle.planner.specs.Planner.{settings_row, settings_rows, chosen, planned_settings}
 use Rattle.planner.specs.Steps.{Passable}
 

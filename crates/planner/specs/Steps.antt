@@ -23,7 +23,7 @@ use Rattle.choice.specs.Colouring.{Fine, Fits}
 use Rattle.choice.specs.Rows.{module_in, centrals_of}
 use Rattle.choice.specs.Record.{Recorded}
 use Rattle.choice.specs.Placement.{chain_places, telling, earlier}
-use Rattle.choice.proofs.Agree.{Agree}
+use Rattle.choice.specs.Agree.{Agree}
 use Rattle.planner.specs.Planner.{planner_checks}
 
 unfoldable pub refusals : Network → List ℕ → ℕ → Verdict

@@ -37,7 +37,7 @@ counted c =
 
 -- its input module has room: the number of centrals is the same when it is asked again
 input_fits : (c : After-centrals-in-loop-row) → c.one_more-inputs.result ≤ c.centrals-in-loop-row.result
-input_fits c = omega (arith, c.if-centrals-inputs.false, c.centrals.ensures, c.centrals-in-loop-row.ensures)
+input_fits c = omega arith
 
 pub loop-row-init : goal.loop-row-init
 unfolding seek_rows modules_of_both most_modules

@@ -64,7 +64,7 @@ from_5 : (c : Else-room-size) (v : Verdict) → v ≡ in_turn (From5 c.args.kind
     → v ≡ in_turn (part_checks c.args.kind c.args.net c.args.note.now c.args.calls.now c.args.settings.now c.args.room)
 unfolding most_note
 from_5 c v =
-    past_4 _ _ _ _ _ _ _ v (sizes _ _ _ _ c.check_sizes-sizes.ensures c.settings_per_call.ensures.0) c.if-sizes-ne0.false c.if-note-gt-MOST_NOTE.false
+    past_4 _ _ _ _ _ _ _ v (sizes _ _ _ _ c.check_sizes-sizes.ensures c.settings_per_call.ensures.0) c.if-sizes-ne0.false (omega arith)
     (size _ _ _ _ _ _ c.trailer_length.ensures ∙ le-ltb _ _ c.if-room-size.false)
 
 -- the kind has no place for the cycle
