@@ -25,7 +25,7 @@ use Rattle.shelf.proofs.Arrival.{Ports}
 use Rattle.shelf.proofs.LawfulLaws.{row_read}
 use Rattle.calls.specs.declared.Verdict.{Verdict}
 use Rattle.calls.specs.Verdict.{passed, seek_rows}
-use Rattle.calls.specs.VerdictLaws.{turn_stops, turn_goes_on, turn_last, refused, not_refused, passed_zero, seek_passes, seek_here, seek_next}
+use Rattle.calls.specs.VerdictLaws.{turn_stops, turn_goes_on, test_stops, test_goes_on, test_passes, seek_passes, seek_here, seek_next}
 use Rattle.calls.specs.Table.{Inside}
 use Rattle.acceptance.specs.Acceptance.{light_verdict, row_verdict, unlawful_row}
 use Rattle.acceptance.proofs.Exactly.{light_passes, row_passes}
@@ -97,16 +97,15 @@ module _ {net : Network} {calls settings : List ℕ} {i : ℕ} {call : CallRow} 
     module _ {input : Bool} (a : input ≡ used_earlier (α calls) (γ settings) i) where
       pub twelve : input ≡ true → record { number = 12; row = i } ≡ unlawful_row net calls settings
       unfolding row_verdict
-      twelve t = refused_here _ (turn_goes_on _ _ light_here z (turn_stops _ (sym (refused 12 i _ (sym a ∙ t))) (λ q. omega arith))) (λ q. omega arith)
+      twelve t = refused_here _ (turn_goes_on _ _ light_here z (test_stops 11 i _ (sym a ∙ t))) (λ q. omega arith)
 
       module _ {output : Bool} (b : output ≡ used_earlier (β calls) (γ settings) i) (t : input ≡ false) where
         pub thirteen : output ≡ true → record { number = 13; row = i } ≡ unlawful_row net calls settings
         unfolding row_verdict
-        thirteen r =
-            refused_here _ (turn_goes_on _ _ light_here z (turn_goes_on _ _ (sym (not_refused 12 i _ (sym a ∙ t))) passed_zero (turn_last (sym (refused 13 i _ (sym b ∙ r)))))) (λ q. omega arith)
+        thirteen r = refused_here _ (turn_goes_on _ _ light_here z (test_goes_on 12 i _ _ (sym a ∙ t) (test_stops 12 i _ (sym b ∙ r)))) (λ q. omega arith)
 
         pub next_passes : output ≡ false → seek_rows (i + 1) (row_verdict net calls settings) ≡ passed
         unfolding row_verdict
         next_passes r =
             seek_next (row_verdict net calls settings) i j.so_far
-            (sym (turn_goes_on _ _ light_here z (turn_goes_on _ _ (sym (not_refused 12 i _ (sym a ∙ t))) passed_zero (turn_last (sym (not_refused 13 i _ (sym b ∙ r)))))))
+            (sym (turn_goes_on _ _ light_here z (test_goes_on 12 i _ _ (sym a ∙ t) (test_passes 13 i (sym b ∙ r)))))

@@ -1,3 +1,4 @@
 pub mod AddingLaws
 pub mod Entering
 pub mod Telling
+pub mod Searching

@@ -5,20 +5,42 @@
 ghost use Rattle.std.specs.Prelude.{◌≡◌, ◌&&◌, [], ◌∷◌, ◌++◌, ◌+◌, ◌*◌, ◌≤◌, eqb, length};
 ghost use Rattle.ground.specs.Bytes.{front, Adds};
 ghost use Rattle.ground.specs.Below.{some_below};
-ghost use Rattle.shelf.specs.Rows.{row_count, module_of, channel_of};
+ghost use Rattle.shelf.specs.Rows.{row_count, module_of, channel_of, is_output};
 ghost use Rattle.calls.specs.Verdict.{in_turn};
+ghost use Rattle.calls.specs.Refusal.{checked_by};
 ghost use Rattle.choice.specs.Colouring.{at_module};
-ghost use Rattle.adding.specs.Adding.{row_bytes, add_checks, new_row_checks, AddsCall};
+ghost use Rattle.planner.specs.Answer.{planned_by};
+ghost use Rattle.adding.specs.Adding.{row_bytes, short, add_checks, new_row_checks, AddsCall};
 ghost use Rattle.adding.specs.Steps.{NewRow, Entered, Addable, SettingsAdded, Tellable, rows_told};
 
-use calls::{Point, Verdict};
-use planner::Planned;
-use shelf::{CallRow, Network};
+use calls::{Point, Refusal};
+use choice::Record;
+use planner::Plan;
+use shelf::{CallRow, Network, Side};
+
+// How many bytes the lent buffers have: that of the calls, that of the settings and that of the moved rows.
+#[derive(Clone, Copy)]
+struct Rooms {
+    calls: usize,
+    settings: usize,
+    moved: usize,
+}
+
+impl Rooms {
+    // Whether a buffer lacks room for as many calls or settings as `row` and one more, or for `row` moved rows.
+    fn are_short(self, row: usize) -> bool
+        requires { row ≤ Network.MOST_CALLS }
+        ensures { result ≡ short row self.calls self.settings self.moved }
+    {
+        self.calls < 4 * row + 4 || self.settings < 3 * row + 3 || self.moved < 2 * row
+    }
+}
 
 // Writes the table with `call` in its last row, K, to the front of `calls_after`, settings for it to the front of `settings_after`,
 // and the rows that had to change their central to the front of `moved_rows`: two bytes each, the high byte first, in chain order.
-// The bytes beyond are kept. Tells 0, K + 1 and the number of rows moved. Refuses what acceptance refuses, as it does; then 2, 3
-// and 4, then 5, 6, 7 and 8 of the new row; and then changes nothing. Nothing is asked of the input.
+// The bytes beyond are kept. Tells the count of the table made, K + 1, and the number of rows moved. Refuses what acceptance refuses, as
+// it does; then 2, 3 and 4, then 5, 6, 7 and 8 of the new row; and then changes nothing. Nothing is asked of the input. Three buffers are
+// lent side by side, and not as one record, since C hands each on by itself.
 pub fn add(
     net: Network,
     calls: &[u8],
@@ -27,25 +49,15 @@ pub fn add(
     calls_after: &mut [u8],
     settings_after: &mut [u8],
     moved_rows: &mut [u8],
-) -> Planned
-    ensures { AddsCall net calls.now settings.now call.now (record { calls = calls_after.old; settings = settings_after.old; moved = moved_rows.old }) (record { calls = calls_after.new; settings = settings_after.new; moved = moved_rows.new }) result }
+) -> Result<Plan, Refusal>
+    ensures { AddsCall net calls.now settings.now call.now (record { calls = calls_after.old; settings = settings_after.old; moved = moved_rows.old }) (record { calls = calls_after.new; settings = settings_after.new; moved = moved_rows.new }) (planned_by result) }
 {
-    let refusal = refuse(
-        net,
-        calls,
-        settings,
-        call,
-        calls_after.len(),
-        settings_after.len(),
-        moved_rows.len(),
-    );
-    if refusal.number != 0 {
-        return Planned {
-            number: refusal.number,
-            row: refusal.row,
-            moved: 0,
-        };
-    }
+    let rooms = Rooms {
+        calls: calls_after.len(),
+        settings: settings_after.len(),
+        moved: moved_rows.len(),
+    };
+    check(net, calls, settings, call, rooms)?;
     let row = calls.len() / 4;
     let end = append(calls, call, calls_after);
     let table = &calls_after[..end];
@@ -57,118 +69,83 @@ pub fn add(
         &mut settings_after[..rows_end],
         moved_rows,
     );
-    Planned {
-        number: 0,
-        row: row + 1,
+    Ok(Plan {
+        count: row + 1,
         moved,
-    }
+    })
 }
 
-// The first refusal, or number 0 where the call can be added into buffers of so many bytes.
-fn refuse(
+// All refusals in their order, for buffers of so many bytes.
+fn check(
     net: Network,
     calls: &[u8],
     settings: &[u8],
     call: &[u8],
-    calls_room: usize,
-    settings_room: usize,
-    moved_room: usize,
-) -> Verdict
-    ensures { result ≡ in_turn (add_checks net calls.now settings.now call.now calls_room settings_room moved_room) }
+    rooms: Rooms,
+) -> Result<(), Refusal>
+    ensures { checked_by result ≡ in_turn (add_checks net calls.now settings.now call.now rooms.calls rooms.settings rooms.moved) }
 {
-    let given = acceptance::accept(net, calls, settings);
-    if given.number != 0 {
-        return given;
-    }
-    let row = calls.len() / 4;
+    let row = acceptance::accept(net, calls, settings)?;
     if call.len() != 4 {
-        return Verdict { number: 2, row: 0 };
+        return Err(Refusal::Lengths);
     }
     if Network::MOST_CALLS < row + 1 {
-        return Verdict { number: 3, row: 0 };
+        return Err(Refusal::TooManyCalls);
     }
-    if calls_room < 4 * row + 4 {
-        return Verdict { number: 4, row: 0 };
-    }
-    if settings_room < 3 * row + 3 {
-        return Verdict { number: 4, row: 0 };
-    }
-    if moved_room < 2 * row {
-        return Verdict { number: 4, row: 0 };
+    if rooms.are_short(row) {
+        return Err(Refusal::NoRoom);
     }
     check_new_row(net, calls, call)
 }
 
 // Refusals 5, 6, 7 and 8 of a new row behind the calls.
-fn check_new_row(net: Network, calls: &[u8], call: &[u8]) -> Verdict
+fn check_new_row(net: Network, calls: &[u8], call: &[u8]) -> Result<(), Refusal>
     requires { NewRow net calls.now call.now }
-    ensures { result ≡ in_turn (new_row_checks net (calls.now ++ call.now) (row_count calls.now)) }
+    ensures { checked_by result ≡ in_turn (new_row_checks net (calls.now ++ call.now) (row_count calls.now)) }
 {
     let row = calls.len() / 4;
     let new = CallRow::at(call, 0);
     if calls::is_outside(net, new) {
-        return Verdict { number: 5, row };
+        return Err(Refusal::Outside(row));
     }
-    if has_point(calls, calls::point_at(call, 0, false), false) {
-        return Verdict { number: 6, row };
+    if has_point(calls, calls::point_at(call, 0, Side::Input), Side::Input) {
+        return Err(Refusal::InletTwice(row));
     }
-    if has_point(calls, calls::point_at(call, 0, true), true) {
-        return Verdict { number: 7, row };
+    if has_point(calls, calls::point_at(call, 0, Side::Output), Side::Output) {
+        return Err(Refusal::OutletTwice(row));
     }
-    if net.centrals() <= calls_at(calls, new.input_module, false) {
-        return Verdict { number: 8, row };
+    let inputs = calls_at(calls, new.input_module, Side::Input);
+    let outputs = calls_at(calls, new.output_module, Side::Output);
+    if net.centrals() <= inputs.max(outputs) {
+        return Err(Refusal::Overfull(row));
     }
-    if net.centrals() <= calls_at(calls, new.output_module, true) {
-        return Verdict { number: 8, row };
-    }
-    Verdict { number: 0, row: 0 }
+    Ok(())
 }
 
-// Whether one of the calls has this inlet, or with `outlets` this outlet.
-fn has_point(calls: &[u8], point: Point, outlets: bool) -> bool
-    ensures { result ≡ some_below (row_count calls.now) (λ j. eqb (module_of calls.now outlets j) point.«module» && eqb (channel_of calls.now outlets j) point.channel) }
+// Whether one of the calls has this inlet, or this outlet, by the side.
+fn has_point(calls: &[u8], point: Point, side: Side) -> bool
+    ensures { result ≡ some_below (row_count calls.now) (λ j. eqb (module_of calls.now (is_output side) j) point.«module» && eqb (channel_of calls.now (is_output side) j) point.channel) }
 {
     let count = calls.len() / 4;
-    let mut row = 0;
-    while row < count {
-        let other = calls::point_at(calls, row, outlets);
-        if other.module == point.module {
-            if other.channel == point.channel {
-                return true;
-            }
-        }
-        row += 1;
-    }
-    false
+    (0..count).any(|row| calls::point_at(calls, row, side) == point)
 }
 
 // How many of the calls stand at a module of one side.
-fn calls_at(calls: &[u8], module: usize, output: bool) -> usize
-    ensures { (result ≡ length (at_module (module_of calls.now output) (row_count calls.now) «module»)) × (result ≤ row_count calls.now) }
+fn calls_at(calls: &[u8], module: usize, side: Side) -> usize
+    ensures { (result ≡ length (at_module (module_of calls.now (is_output side)) (row_count calls.now) «module»)) × (result ≤ row_count calls.now) }
 {
-    let rows = calls.len() / 4;
-    let mut count = 0;
-    let mut row = 0;
-    while row < rows {
-        if module_at(calls, row, output) == module {
-            count += 1;
-        }
-        row += 1;
-    }
-    count
+    let count = calls.len() / 4;
+    (0..count)
+        .filter(|row| module_at(calls, *row, side) == module)
+        .count()
 }
 
-// The output module of a row, or its input module.
-fn module_at(calls: &[u8], row: usize, output: bool) -> usize
+// The module of a row on one side.
+fn module_at(calls: &[u8], row: usize, side: Side) -> usize
     requires { 4 * row + 4 ≤ length calls.now }
-    ensures { result ≡ module_of calls.now output row }
+    ensures { result ≡ module_of calls.now (is_output side) row }
 {
-    let call = CallRow::at(calls, row);
-    if output {
-        call.output_module
-    } else {
-        call.input_module
-    }
+    calls::point_at(calls, row, side).module
 }
 
 // Writes the calls and behind them the new one to the front of `out`, and tells where they end.
@@ -194,8 +171,8 @@ fn place_and_write(
     let row = settings.len() / 3;
     ground::write_bytes(rows, 0, settings);
     enter_calls(table, rows);
-    let mut used = [0u32; choice::RECORD];
-    choice::record_rows(&mut used, rows, row);
+    let mut used = Record::new();
+    used.record_rows(rows, row);
     let mut chain = [0u16; choice::CHAIN];
     let moved = planner::place_rest(net, table, rows, row, &mut used, &mut chain);
     tell_rows(&chain, 2 * net.r - 1, moved, moved_rows);
@@ -209,10 +186,8 @@ fn enter_calls(calls: &[u8], rows: &mut [u8])
     ensures { Entered calls.now rows.old (row_count calls.now) rows.new }
 {
     let count = calls.len() / 4;
-    let mut row = 0;
-    while row < count {
+    for row in 0..count {
         planner::enter_call(calls, rows, row);
-        row += 1;
     }
 }
 
@@ -221,11 +196,9 @@ fn tell_rows(chain: &[u16; choice::CHAIN], start: usize, moved: usize, out: &mut
     requires { Tellable chain.now start moved out.old }
     ensures { out.new ≡ front out.old (row_bytes (rows_told chain.now start moved)) }
 {
-    let mut told = 0;
     let mut end = 0;
-    while told < moved {
-        end = write_number(out, end, chain[start - 1 - told]);
-        told += 1;
+    for row in chain[start - moved..start].iter().rev() {
+        end = write_number(out, end, *row);
     }
 }
 
@@ -234,7 +207,5 @@ fn write_number(out: &mut [u8], at: usize, number: u16) -> usize
     requires { at + 2 ≤ length out.old }
     ensures { Adds out.old out.new at result (row_bytes (number ∷ [])) }
 {
-    let value = number as usize;
-    let next = ground::write_byte(out, at, ground::high_byte(value));
-    ground::write_byte(out, next, ground::low_byte(value))
+    ground::write_bytes(out, at, &number.to_be_bytes())
 }

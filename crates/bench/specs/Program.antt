@@ -1,30 +1,31 @@
 -- The program's own table, part by part.
---   is_plan, count_of, room_of, part_of part == what the bytes of a part of the program's table say: who answers, K, the room, and the whole part
-use Rattle.std.specs.Prelude.{Bool, cond, [], ℕ, ◌*◌, eqb, get_or, take}
+--   asked_of entry   == who answers, and the room or the settings that are given
+--   outcome_of entry == what comes back: the numbers that the answer tells, the bytes written to the room's front, and beyond those that the program takes for blank
+--   part_of part     == the whole part
+use Rattle.std.specs.Prelude.{◌++◌, ◌-◌, length, replicate}
 use Rattle.shelf.specs.Network.{of_sizes}
+use Rattle.calls.specs.Refusal.{answered_by}
+use Rattle.planner.specs.Answer.{planned_by}
+use Rattle.bench.specs.declared.Entry.{Entry}
+use Rattle.bench.specs.declared.Entry.TheVariants.{Planner, Acceptance}
 use Rattle.bench.specs.declared.Part.{Part}
+use Rattle.bench.specs.declared.TheConstants.{BLANK}
 use Rattle.bench.specs.Bench as bench
-use Rattle.bench.specs.Bench.{planner, acceptor}
+use Rattle.bench.specs.Bench.{planner, acceptor, by_planner, by_acceptance}
 
-unfoldable pub is_plan : Part → Bool
-is_plan part = eqb (get_or part.head 1 0) 0
+unfoldable pub asked_of : Entry → bench.Asked
+asked_of (Planner room answer written) = planner room
+asked_of (Acceptance settings answer) = acceptor settings.now
 
-unfoldable pub count_of : Part → ℕ
-count_of part = get_or part.head 5 0
-
-unfoldable pub room_of : Part → ℕ
-room_of part = get_or part.head 6 0
+unfoldable pub outcome_of : Entry → bench.Outcome
+outcome_of (Planner room answer written) = by_planner (planned_by answer) (written.now ++ replicate (room - length written.now) BLANK)
+outcome_of (Acceptance settings answer) = by_acceptance (answered_by answer)
 
 unfoldable pub part_of : Part → bench.Part
 part_of part = record {
-  case = get_or part.head 0 0;
-  net = of_sizes (get_or part.head 2 0) (get_or part.head 3 0) (get_or part.head 4 0);
-  calls = take (4 * count_of part) part.calls;
-  asked = cond (is_plan part) (planner (room_of part)) (acceptor (take (3 * count_of part) part.bytes));
-  outcome = record {
-    number = get_or part.head 7 0;
-    row = get_or part.head 8 0;
-    moved = get_or part.head 9 0;
-    after = cond (is_plan part) (take (room_of part) part.bytes) [];
-  };
+  case = part.case;
+  net = of_sizes part.n part.m part.r;
+  calls = part.calls.now;
+  asked = asked_of part.entry;
+  outcome = outcome_of part.entry;
 }

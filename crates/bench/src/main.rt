@@ -7,150 +7,172 @@ ghost use Rattle.std.specs.Prelude.{◌≡◌, map};
 ghost use Rattle.bench.specs.Bench.{bench_table};
 ghost use Rattle.bench.specs.Program.{part_of};
 
+use calls::Refusal;
+use planner::Plan;
 use shelf::Network;
 use std::io::{self, Write};
 
-// The parts of the bench table; the most rows that one of them has, and the bytes of the buffer that rooms are lent from.
+// The parts of the bench table, and the bytes of the buffer that rooms are lent from.
 const PARTS: usize = 19;
-
-const MOST_ROWS: usize = 4;
 
 const MOST_ROOM: usize = 16;
 
 // What each byte of that buffer is before: no settings of the table have such a byte.
 const BLANK: u8 = 9;
 
-// One part: ten numbers, the calls, and last the bytes of the buffer afterwards, or for acceptance the settings that it is given.
+// Who answers a part, what is given to it beside network and calls, and what comes back.
 #[derive(Clone, Copy)]
-pub struct Part {
-    pub head: [u8; 10],
-    pub calls: [u8; 4 * MOST_ROWS],
-    pub bytes: [u8; MOST_ROOM],
+pub enum Entry {
+    // The planner is lent so many bytes of room, and writes to the front of it: nothing where it refuses.
+    Planner {
+        room: usize,
+        answer: Result<Plan, Refusal>,
+        written: &'static [u8],
+    },
+    // Acceptance is given settings. It is lent nothing that it could write.
+    Acceptance {
+        settings: &'static [u8],
+        answer: Result<usize, Refusal>,
+    },
 }
 
-// The ten numbers: the case, who answers (0 the planner, 1 acceptance), n, m, r, K, the bytes of room that are lent, and of the answer number, row
-// and moved count.
-const CASE_AT: usize = 0;
+// A part of a case.
+#[derive(Clone, Copy)]
+pub struct Part {
+    pub case: usize,
+    pub n: usize,
+    pub m: usize,
+    pub r: usize,
+    pub calls: &'static [u8],
+    pub entry: Entry,
+}
 
-const ENTRY_AT: usize = 1;
+impl Part {
+    // Whether the compiled entry answers as it is written.
+    fn is_answered(self) -> bool {
+        match self.entry {
+            Entry::Planner {
+                room,
+                answer,
+                written,
+            } => self.is_planned(room, answer, written),
+            Entry::Acceptance { settings, answer } => self.is_accepted(settings, answer),
+        }
+    }
 
-const SIZES_AT: usize = 2;
+    // Whether the planner, lent so much room, answers this and leaves every byte of the buffer as it is written: those of the room, of a
+    // refusal too, and those beyond what is lent. A part with more room than the buffer has is not answered.
+    fn is_planned(self, room: usize, answer: Result<Plan, Refusal>, written: &[u8]) -> bool {
+        let mut buffer = [BLANK; MOST_ROOM];
+        let Some(lent) = buffer.get_mut(..room) else {
+            return false;
+        };
+        planner::plan(self.network(), self.calls, lent) == answer && is_written(&buffer, written)
+    }
 
-const COUNT_AT: usize = 5;
+    // Whether acceptance, given these settings, answers this.
+    fn is_accepted(self, settings: &[u8], answer: Result<usize, Refusal>) -> bool {
+        acceptance::accept(self.network(), self.calls, settings) == answer
+    }
 
-const ROOM_AT: usize = 6;
+    // The network of a part, whose cycle is the larger of r and m.
+    fn network(self) -> Network {
+        Network::of_sizes(self.n, self.m, self.r)
+    }
+}
 
-const NUMBER_AT: usize = 7;
+// Whether these bytes stand at the front of a buffer, and those beyond are as they were.
+fn is_written(buffer: &[u8], written: &[u8]) -> bool {
+    buffer
+        .strip_prefix(written)
+        .is_some_and(|beyond| beyond.iter().all(|byte| *byte == BLANK))
+}
 
-const ROW_AT: usize = 8;
-
-const MOVED_AT: usize = 9;
-
+// The table as this program has it: what `bench_table` hands out.
+#[rattlefmt::skip]
 const TABLE: [Part; PARTS] = [
     Part {
-        head: [1, 0, 1, 1, 1, 0, 0, 0, 0, 0],
-        calls: [0, 0, 0, 0, 0, 0, 0, 0, 0, 0, 0, 0, 0, 0, 0, 0],
-        bytes: [9, 9, 9, 9, 9, 9, 9, 9, 9, 9, 9, 9, 9, 9, 9, 9],
+        case: 1, n: 1, m: 1, r: 1, calls: &[],
+        entry: Entry::Planner { room: 0, answer: Ok(Plan { count: 0, moved: 0 }), written: &[] },
     },
     Part {
-        head: [2, 0, 1, 1, 1, 1, 3, 0, 1, 0],
-        calls: [0, 0, 0, 0, 0, 0, 0, 0, 0, 0, 0, 0, 0, 0, 0, 0],
-        bytes: [0, 0, 0, 9, 9, 9, 9, 9, 9, 9, 9, 9, 9, 9, 9, 9],
+        case: 2, n: 1, m: 1, r: 1, calls: &[0, 0, 0, 0],
+        entry: Entry::Planner { room: 3, answer: Ok(Plan { count: 1, moved: 0 }), written: &[0, 0, 0] },
     },
     Part {
-        head: [3, 0, 2, 2, 2, 4, 16, 0, 4, 0],
-        calls: [0, 0, 0, 0, 1, 0, 1, 0, 1, 1, 0, 1, 0, 1, 1, 1],
-        bytes: [0, 0, 0, 1, 0, 1, 0, 1, 1, 1, 1, 0, 9, 9, 9, 9],
+        case: 3, n: 2, m: 2, r: 2, calls: &[0, 0, 0, 0, 1, 0, 1, 0, 1, 1, 0, 1, 0, 1, 1, 1],
+        entry: Entry::Planner { room: 16, answer: Ok(Plan { count: 4, moved: 0 }), written: &[0, 0, 0, 1, 0, 1, 0, 1, 1, 1, 1, 0] },
     },
     Part {
-        head: [4, 0, 2, 2, 3, 4, 12, 0, 4, 2],
-        calls: [0, 0, 0, 0, 0, 1, 1, 0, 1, 0, 2, 0, 1, 1, 1, 1],
-        bytes: [1, 1, 1, 0, 0, 1, 1, 0, 2, 2, 1, 2, 9, 9, 9, 9],
+        case: 4, n: 2, m: 2, r: 3, calls: &[0, 0, 0, 0, 0, 1, 1, 0, 1, 0, 2, 0, 1, 1, 1, 1],
+        entry: Entry::Planner { room: 12, answer: Ok(Plan { count: 4, moved: 2 }), written: &[1, 1, 1, 0, 0, 1, 1, 0, 2, 2, 1, 2] },
     },
     Part {
-        head: [5, 0, 2, 1, 1, 2, 6, 8, 1, 0],
-        calls: [0, 0, 0, 0, 0, 1, 0, 1, 0, 0, 0, 0, 0, 0, 0, 0],
-        bytes: [9, 9, 9, 9, 9, 9, 9, 9, 9, 9, 9, 9, 9, 9, 9, 9],
+        case: 5, n: 2, m: 1, r: 1, calls: &[0, 0, 0, 0, 0, 1, 0, 1],
+        entry: Entry::Planner { room: 6, answer: Err(Refusal::Overfull(1)), written: &[] },
     },
     Part {
-        head: [5, 0, 2, 2, 1, 2, 6, 0, 2, 0],
-        calls: [0, 0, 0, 0, 0, 1, 0, 1, 0, 0, 0, 0, 0, 0, 0, 0],
-        bytes: [0, 0, 0, 1, 1, 1, 9, 9, 9, 9, 9, 9, 9, 9, 9, 9],
+        case: 5, n: 2, m: 2, r: 1, calls: &[0, 0, 0, 0, 0, 1, 0, 1],
+        entry: Entry::Planner { room: 6, answer: Ok(Plan { count: 2, moved: 0 }), written: &[0, 0, 0, 1, 1, 1] },
     },
     Part {
-        head: [6, 0, 2, 2, 1, 2, 6, 6, 1, 0],
-        calls: [0, 0, 0, 0, 0, 0, 0, 1, 0, 0, 0, 0, 0, 0, 0, 0],
-        bytes: [9, 9, 9, 9, 9, 9, 9, 9, 9, 9, 9, 9, 9, 9, 9, 9],
+        case: 6, n: 2, m: 2, r: 1, calls: &[0, 0, 0, 0, 0, 0, 0, 1],
+        entry: Entry::Planner { room: 6, answer: Err(Refusal::InletTwice(1)), written: &[] },
     },
     Part {
-        head: [7, 0, 2, 2, 1, 2, 6, 7, 1, 0],
-        calls: [0, 0, 0, 0, 0, 1, 0, 0, 0, 0, 0, 0, 0, 0, 0, 0],
-        bytes: [9, 9, 9, 9, 9, 9, 9, 9, 9, 9, 9, 9, 9, 9, 9, 9],
+        case: 7, n: 2, m: 2, r: 1, calls: &[0, 0, 0, 0, 0, 1, 0, 0],
+        entry: Entry::Planner { room: 6, answer: Err(Refusal::OutletTwice(1)), written: &[] },
     },
     Part {
-        head: [8, 0, 1, 1, 1, 1, 3, 5, 0, 0],
-        calls: [1, 0, 0, 0, 0, 0, 0, 0, 0, 0, 0, 0, 0, 0, 0, 0],
-        bytes: [9, 9, 9, 9, 9, 9, 9, 9, 9, 9, 9, 9, 9, 9, 9, 9],
+        case: 8, n: 1, m: 1, r: 1, calls: &[1, 0, 0, 0],
+        entry: Entry::Planner { room: 3, answer: Err(Refusal::Outside(0)), written: &[] },
     },
     Part {
-        head: [9, 1, 2, 2, 2, 1, 0, 0, 1, 0],
-        calls: [0, 0, 1, 0, 0, 0, 0, 0, 0, 0, 0, 0, 0, 0, 0, 0],
-        bytes: [1, 1, 0, 0, 0, 0, 0, 0, 0, 0, 0, 0, 0, 0, 0, 0],
+        case: 9, n: 2, m: 2, r: 2, calls: &[0, 0, 1, 0],
+        entry: Entry::Acceptance { settings: &[1, 1, 0], answer: Ok(1) },
     },
     Part {
-        head: [9, 1, 2, 2, 2, 1, 0, 9, 0, 0],
-        calls: [0, 0, 1, 0, 0, 0, 0, 0, 0, 0, 0, 0, 0, 0, 0, 0],
-        bytes: [2, 1, 0, 0, 0, 0, 0, 0, 0, 0, 0, 0, 0, 0, 0, 0],
+        case: 9, n: 2, m: 2, r: 2, calls: &[0, 0, 1, 0],
+        entry: Entry::Acceptance { settings: &[2, 1, 0], answer: Err(Refusal::NotOwned(0)) },
     },
     Part {
-        head: [9, 1, 2, 2, 2, 1, 0, 10, 0, 0],
-        calls: [0, 0, 1, 0, 0, 0, 0, 0, 0, 0, 0, 0, 0, 0, 0, 0],
-        bytes: [1, 0, 0, 0, 0, 0, 0, 0, 0, 0, 0, 0, 0, 0, 0, 0],
+        case: 9, n: 2, m: 2, r: 2, calls: &[0, 0, 1, 0],
+        entry: Entry::Acceptance { settings: &[1, 0, 0], answer: Err(Refusal::WrongCentral(0)) },
     },
     Part {
-        head: [9, 1, 2, 2, 2, 1, 0, 11, 0, 0],
-        calls: [0, 0, 1, 0, 0, 0, 0, 0, 0, 0, 0, 0, 0, 0, 0, 0],
-        bytes: [1, 1, 1, 0, 0, 0, 0, 0, 0, 0, 0, 0, 0, 0, 0, 0],
+        case: 9, n: 2, m: 2, r: 2, calls: &[0, 0, 1, 0],
+        entry: Entry::Acceptance { settings: &[1, 1, 1], answer: Err(Refusal::WrongOutput(0)) },
     },
     Part {
-        head: [10, 1, 2, 2, 2, 2, 0, 12, 1, 0],
-        calls: [0, 0, 0, 0, 0, 1, 1, 0, 0, 0, 0, 0, 0, 0, 0, 0],
-        bytes: [0, 0, 0, 0, 0, 1, 0, 0, 0, 0, 0, 0, 0, 0, 0, 0],
+        case: 10, n: 2, m: 2, r: 2, calls: &[0, 0, 0, 0, 0, 1, 1, 0],
+        entry: Entry::Acceptance { settings: &[0, 0, 0, 0, 0, 1], answer: Err(Refusal::InputPairTwice(1)) },
     },
     Part {
-        head: [11, 1, 2, 2, 2, 2, 0, 13, 1, 0],
-        calls: [0, 0, 0, 0, 1, 0, 0, 1, 0, 0, 0, 0, 0, 0, 0, 0],
-        bytes: [0, 0, 0, 1, 0, 0, 0, 0, 0, 0, 0, 0, 0, 0, 0, 0],
+        case: 11, n: 2, m: 2, r: 2, calls: &[0, 0, 0, 0, 1, 0, 0, 1],
+        entry: Entry::Acceptance { settings: &[0, 0, 0, 1, 0, 0], answer: Err(Refusal::OutputPairTwice(1)) },
     },
     Part {
-        head: [12, 0, 1, 32, 1, 0, 0, 0, 0, 0],
-        calls: [0, 0, 0, 0, 0, 0, 0, 0, 0, 0, 0, 0, 0, 0, 0, 0],
-        bytes: [9, 9, 9, 9, 9, 9, 9, 9, 9, 9, 9, 9, 9, 9, 9, 9],
+        case: 12, n: 1, m: 32, r: 1, calls: &[],
+        entry: Entry::Planner { room: 0, answer: Ok(Plan { count: 0, moved: 0 }), written: &[] },
     },
     Part {
-        head: [12, 0, 1, 33, 1, 0, 0, 1, 0, 0],
-        calls: [0, 0, 0, 0, 0, 0, 0, 0, 0, 0, 0, 0, 0, 0, 0, 0],
-        bytes: [9, 9, 9, 9, 9, 9, 9, 9, 9, 9, 9, 9, 9, 9, 9, 9],
+        case: 12, n: 1, m: 33, r: 1, calls: &[],
+        entry: Entry::Planner { room: 0, answer: Err(Refusal::Sizes), written: &[] },
     },
     Part {
-        head: [12, 0, 2, 2, 2, 4, 12, 0, 4, 0],
-        calls: [0, 0, 0, 0, 1, 0, 1, 0, 1, 1, 0, 1, 0, 1, 1, 1],
-        bytes: [0, 0, 0, 1, 0, 1, 0, 1, 1, 1, 1, 0, 9, 9, 9, 9],
+        case: 12, n: 2, m: 2, r: 2, calls: &[0, 0, 0, 0, 1, 0, 1, 0, 1, 1, 0, 1, 0, 1, 1, 1],
+        entry: Entry::Planner { room: 12, answer: Ok(Plan { count: 4, moved: 0 }), written: &[0, 0, 0, 1, 0, 1, 0, 1, 1, 1, 1, 0] },
     },
     Part {
-        head: [12, 0, 2, 2, 2, 4, 11, 4, 0, 0],
-        calls: [0, 0, 0, 0, 1, 0, 1, 0, 1, 1, 0, 1, 0, 1, 1, 1],
-        bytes: [9, 9, 9, 9, 9, 9, 9, 9, 9, 9, 9, 9, 9, 9, 9, 9],
+        case: 12, n: 2, m: 2, r: 2, calls: &[0, 0, 0, 0, 1, 0, 1, 0, 1, 1, 0, 1, 0, 1, 1, 1],
+        entry: Entry::Planner { room: 11, answer: Err(Refusal::NoRoom), written: &[] },
     },
 ];
 
 fn main(rt: HostRuntime) -> io::Result<()> {
     let mut out = rt.stdout();
-    let parts = bench_table();
-    let mut i = 0;
-    while i < PARTS {
-        show(&mut out, parts[i])?;
-        i += 1;
+    for part in bench_table() {
+        show(&mut out, part)?;
     }
     Ok(())
 }
@@ -164,78 +186,10 @@ fn bench_table() -> [Part; PARTS]
 
 // Prints the number of a part's case, and whether the compiled entry answers as it is written.
 fn show<W: Write>(out: &mut W, part: Part) -> io::Result<()> {
-    let head = part.head;
-    let case = head[CASE_AT];
-    if is_answered(part) {
+    let case = part.case;
+    if part.is_answered() {
         writeln!(out, "case {case} as written")
     } else {
         writeln!(out, "case {case} NOT as written")
     }
-}
-
-// Whether the compiled entry answers a part as it is written. A part with more rows than there is place for is not answered.
-fn is_answered(part: Part) -> bool {
-    let head = part.head;
-    let calls = part.calls;
-    let bytes = part.bytes;
-    let count = ground::byte_at(&head, COUNT_AT);
-    if MOST_ROWS < count {
-        return false;
-    }
-    if head[ENTRY_AT] == 0 {
-        return is_planned(&head, front(&calls, 4 * count), &bytes);
-    }
-    is_accepted(&head, front(&calls, 4 * count), front(&bytes, 3 * count))
-}
-
-// The first bytes, as many as `end`, or all where there are fewer.
-fn front<'a>(bytes: &'a [u8], end: usize) -> &'a [u8] {
-    if bytes.len() < end {
-        return bytes;
-    }
-    &bytes[..end]
-}
-
-// The network of a part, whose cycle is the larger of r and m.
-fn network_of(head: &[u8; 10]) -> Network {
-    Network::of_sizes(
-        ground::byte_at(head, SIZES_AT),
-        ground::byte_at(head, SIZES_AT + 1),
-        ground::byte_at(head, SIZES_AT + 2),
-    )
-}
-
-// Whether the planner, given these calls and as much room as the part says, answers as it is written and leaves every byte of the buffer as it is
-// written: those of the room, of a refusal too, and those beyond what is lent.
-fn is_planned(head: &[u8; 10], calls: &[u8], after: &[u8; MOST_ROOM]) -> bool {
-    let room_end = ground::byte_at(head, ROOM_AT);
-    if MOST_ROOM < room_end {
-        return false;
-    }
-    let mut buffer = [BLANK; MOST_ROOM];
-    let answer = planner::plan(network_of(head), calls, &mut buffer[..room_end]);
-    if answer.number != ground::byte_at(head, NUMBER_AT) {
-        return false;
-    }
-    if answer.row != ground::byte_at(head, ROW_AT) {
-        return false;
-    }
-    if answer.moved != ground::byte_at(head, MOVED_AT) {
-        return false;
-    }
-    is_same(&buffer, after)
-}
-
-// Whether two buffers hold the same bytes.
-fn is_same(a: &[u8; MOST_ROOM], b: &[u8; MOST_ROOM]) -> bool {
-    a == b
-}
-
-// Whether acceptance, given these calls and settings, answers as it is written. It is lent nothing that it could write.
-fn is_accepted(head: &[u8; 10], calls: &[u8], settings: &[u8]) -> bool {
-    let answer = acceptance::accept(network_of(head), calls, settings);
-    if answer.number != ground::byte_at(head, NUMBER_AT) {
-        return false;
-    }
-    answer.row == ground::byte_at(head, ROW_AT)
 }

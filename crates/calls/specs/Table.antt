@@ -7,6 +7,7 @@
 --   outside_at, outside_row net calls == 5, α or β ≥ r, or ω or ω' ≥ n: of one row, and the first such
 --   point_at, point_twice calls outlets number == the refusal of a row whose inlet or outlet an earlier row uses, and the first such
 --   inlet_twice calls, outlet_twice calls == 6, inlet used by an earlier row; 7, outlet used by an earlier row
+--   twice_number side    == 6 for inlets, 7 for outlets
 --   size_checks, call_checks == 1, 2, 3 in this order; 5, 6, 7 in this order
 --   Inside net calls i   == 5 does not refuse row i
 --   InOrder net calls    == a call table in order: none of these refuses it
@@ -19,6 +20,8 @@ use Rattle.ground.specs.Below.{used_earlier, Once}
 use Rattle.ground.specs.Marks.{marks}
 use Rattle.shelf.specs.declared.Network.{Network}
 use Rattle.shelf.specs.declared.CallRow.{CallRow}
+use Rattle.shelf.specs.declared.Side.{Side}
+use Rattle.shelf.specs.declared.Side.TheVariants.{Input, Output}
 use Rattle.shelf.specs.Network.{within_limits, most_channels, most_modules, most_calls}
 use Rattle.shelf.specs.Rows.{row_count, α, ω, β, ω', call_at, module_of, channel_of}
 use Rattle.calls.specs.declared.Verdict.{Verdict}
@@ -60,6 +63,10 @@ point_at calls outlets number i = refused_if number i (point_used calls outlets 
 
 unfoldable pub point_twice : List ℕ → Bool → ℕ → Verdict
 point_twice calls outlets number = seek_rows (row_count calls) (point_at calls outlets number)
+
+abbrev pub twice_number : Side → ℕ
+twice_number Input = 6
+twice_number Output = 7
 
 abbrev pub inlet_twice : List ℕ → Verdict
 inlet_twice calls = point_twice calls false 6

@@ -1,17 +1,20 @@
 -- What it means that a check passes, and what all of them together say: the table is in order.
 --   sizes_pass, lengths_pass, count_passes == when 1, 2 and 3 pass
+--   size_checks_is      == 1, 2 and 3 in their order, test by test
 --   every_row, some_row == a check sought row by row passes where every row does, and else some row does not
 --   inside_is           == when 5 passes for one row
 --   outside_passes, points_pass == when 5, and 6 and 7 pass
 --   outside_read        == a row read from the table is one that 5 refuses where the row of its bytes is
 --   inside_points       == rows that 5 does not refuse have a place in a record of inlets and of outlets
+--   twice_refuses       == 6 and 7 are refusals
 --   point_tells         == what marking a row's inlet or outlet tells, and what it leaves
 --   size_checks_pass, call_checks_pass, in_order_is == when all of them pass
 --   own_modules         == a table in order is one between the shelf's own modules
 --   size_number, row_number, call_number == which numbers they can tell
-use Rattle.std.specs.Prelude.{◌≡◌, refl, ◌↔◌, Bool, true, false, not, List, ℕ, suc, ◌+◌, ◌*◌, ◌/◌, ◌%◌, ◌≤◌, ◌<◌, T, length}
+use Rattle.std.specs.Prelude.{◌≡◌, refl, ◌↔◌, Bool, true, false, cond, not, List, [], ◌∷◌, ℕ, suc, ◌+◌, ◌*◌, ◌/◌, ◌%◌, ◌≤◌, ◌<◌, T, eqb, ltb, length}
 use Rattle.std.proofs.Math.Logic.Iff
 use Rattle.std.proofs.Common.{arith}
+use Rattle.ground.specs.Truth.{any}
 use Rattle.ground.specs.TruthLaws.{not_is, holds_is, none_is}
 use Rattle.ground.specs.Numbers.{less_is, at_most_is, equal_is}
 use Rattle.ground.specs.Below.{some_below, Once}
@@ -20,13 +23,16 @@ use Rattle.ground.specs.Marks.{Marked}
 use Rattle.ground.specs.MarksLaws.{mark_tells}
 use Rattle.shelf.specs.declared.Network.{Network}
 use Rattle.shelf.specs.declared.CallRow.{CallRow}
+use Rattle.shelf.specs.declared.Side.{Side}
+use Rattle.shelf.specs.declared.Side.TheVariants.{Input, Output}
 use Rattle.shelf.specs.Network.{within_limits, most_modules, most_calls}
 use Rattle.shelf.specs.NetworkLaws.{limits_are, channel_bit}
 use Rattle.shelf.specs.Rows.{row_count, α, ω, β, ω', module_of, channel_of, ModulesBelow, CallRead}
+use Rattle.calls.specs.declared.Verdict.{Verdict}
 use Rattle.calls.specs.declared.Point.{Point}
-use Rattle.calls.specs.Verdict.{refused_if, seek_rows}
+use Rattle.calls.specs.Verdict.{passed, refused_if, ◌⨾◌, in_turn, seek_rows}
 use Rattle.calls.specs.VerdictLaws.{turn_passes, turn_number, test_number, seek_number, refused_zero, seek_passes}
-use Rattle.calls.specs.Table.{bad_sizes, bad_lengths, too_many_calls, outside, outside_call, outside_row, point_twice, size_checks, call_checks, Inside, InOrder, point_used, PointRead, point_marks, PointFits}
+use Rattle.calls.specs.Table.{bad_sizes, bad_lengths, too_many_calls, outside, outside_call, outside_row, point_twice, size_checks, call_checks, Inside, InOrder, point_used, twice_number, PointRead, point_marks, PointFits}
 
 pub sizes_pass : (net : Network) → ((bad_sizes net).number ≡ 0) ↔ T (within_limits net)
 unfolding bad_sizes
@@ -43,6 +49,23 @@ lengths_pass c s per =
 pub count_passes : (K : ℕ) → ((too_many_calls K).number ≡ 0) ↔ (K ≤ most_calls)
 unfolding too_many_calls
 count_passes K = Iff.trans (refused_zero 2 0 _) (at_most_is K most_calls)
+
+-- 1, 2 and 3 in their order, test by test
+abbrev refusal : ℕ → Verdict
+refusal number = record { number = number; row = 0 }
+
+pub size_checks_is : (net : Network) (c s per : ℕ) → size_checks net c s per
+    ≡ cond (within_limits net) (cond (eqb (c % 4) 0) (cond (eqb s (per * (c / 4))) (cond (ltb most_calls (c / 4)) (refusal 3) passed) (refusal 2)) (refusal 2)) (refusal 1)
+unfolding size_checks in_turn any bad_sizes bad_lengths too_many_calls refused_if passed ◌⨾◌
+size_checks_is net c s per = by_tests (within_limits net) (eqb (c % 4) 0) (eqb s (per * (c / 4))) (ltb most_calls (c / 4))
+  where
+    by_tests : (sizes whole each many : Bool) → in_turn (refused_if 1 0 (not sizes) ∷ refused_if 2 0 (any (not whole ∷ not each ∷ [])) ∷ refused_if 3 0 many ∷ [])
+        ≡ cond sizes (cond whole (cond each (cond many (refusal 3) passed) (refusal 2)) (refusal 2)) (refusal 1)
+    by_tests false whole each many = refl
+    by_tests true false each many = refl
+    by_tests true true false many = refl
+    by_tests true true true true = refl
+    by_tests true true true false = refl
 
 pub inside_is : (net : Network) (calls : List ℕ) (i : ℕ) → T (not (outside net calls i)) ↔ Inside net calls i
 unfolding outside_call
@@ -159,3 +182,7 @@ module _ (P : ℕ → Type 0) (zero-holds : P 0) where
   call_number net calls five six seven =
       turn_number P _ zero-holds
       (row_number 5 _ (outside net calls) five, (row_number 6 _ (point_used calls false) six, (row_number 7 _ (point_used calls true) seven, tt)))
+
+pub twice_refuses : (side : Side) → twice_number side ≡ 0 → ⊥
+twice_refuses Input e = omega (arith, e)
+twice_refuses Output e = omega (arith, e)

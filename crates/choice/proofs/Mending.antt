@@ -1,14 +1,14 @@
 -- The two chain steps do what the choice rule says. A chain step changes its row before it goes on, so that the next one meets the rows
 -- as the steps before it left them; that it finds the rows of the rule's chain all the same is shown here, once for both sides.
---   search_miss, search_hit == a search by rising rows
+--   search_answer       == a search for the call on a central, by rising rows
+--   on_hit, on_miss, on_end == the same row by row, where it answers a number
 --   mends_chain         == from the new call, which stands on b and takes a, the steps change the rows of the rule's chain, and leave what it leaves
 --   Stepping            == a chain step has searched for the call that stands on its central
 --   mended_end, mended_on, mendable_on == the cases of a chain step, for its code
 --   told_row            == the row of the chain that stands at a place
---   on_hit, on_miss, on_end == a search for the call on a central, by rising rows
 --   some_left, tell_room == what a chain step that has found a call knows
 --   same_mends, not_twice, telling_length == small laws for the proofs above
-use Rattle.std.specs.Prelude.{◌≡◌, ◌⊎◌, Bool, true, false, not, ℕ, zero, suc, ◌+◌, ◌*◌, ◌-◌, ◌/◌, ◌≤◌, ◌<◌, eqb, length, get_or, set}
+use Rattle.std.specs.Prelude.{◌≡◌, ◌⊎◌, Bool, true, false, not, ℕ, zero, suc, ◌+◌, ◌*◌, ◌-◌, ◌/◌, ◌≤◌, ◌<◌, eqb, length, get_or, set, Option as Answer, Some, None, MatchOption}
 use Rattle.std.proofs.Math.Path.{refl, ap}
 use Rattle.std.proofs.Common.{sym, ◌∙◌, inl, inr, ⊎_elim, add-one, arith, length-set, length-append, get_or-set_same, get_or-set_other, ext_get_or, eqb-true}
 use Rattle.std.proofs.Math.Option.{Option, none, some}
@@ -19,39 +19,19 @@ use Rattle.ground.specs.Numbers.{below_suc}
 use Rattle.ground.specs.Lists.{In, here, there, Distinct}
 use Rattle.ground.specs.ListsLaws.{not_in_nil}
 use Rattle.shelf.specs.Network.{most_calls}
-use Rattle.choice.specs.Rule.{at, first_below, row_on, exchange, exchanged}
+use Rattle.choice.specs.Rule.{at, first_below, stands, row_on, exchange, exchanged}
 use Rattle.choice.specs.Colouring.{Free}
 use Rattle.choice.specs.Rows.{module_in, centrals_of}
-use Rattle.choice.specs.Record.{told}
+use Rattle.choice.specs.Record.{found_by, told}
 use Rattle.choice.specs.Placement.{chain_places, Mends, stop, next, MendsIn, telling, Mendable, Mended}
-use Rattle.choice.proofs.Search.{Standing, row, free, standing, stands_iff}
+use Rattle.choice.proofs.Search.{Standing, row, free, standing, stands_iff, row_below}
 use Rattle.choice.proofs.Chain.{Setting, turn, Runs, stop as at-end, next as goes_on}
 use Rattle.choice.proofs.Exchange.{exchange_first, exchange_second, exchange_twice, Change, changed, kept, length_exchanged}
 use Rattle.choice.proofs.StepLaws.{ChainStart, step_chain, after_chain, setting, chain_runs, chain_distinct, chain_rows, chain_change, placed_same, placed_new}
-use Rattle.choice.proofs.RowsLaws.{modules_same, recolour, recolour_again}
 use Rattle.choice.proofs.RecordLaws.{told_there, told_nothing}
+use Rattle.choice.proofs.RowsLaws.{modules_same, recolour, recolour_again}
 
--- ---- a search by rising numbers
-
-module _ (p : ℕ → Bool) where
-  search_miss : (i : ℕ) → first_below i p ≡ none → p i ≡ false → first_below (i + 1) p ≡ none
-  unfolding first_below
-  search_miss i e n = rw (add-one i, e, n)
-
-  search_hit : (i k : ℕ) → first_below i p ≡ none → p i ≡ true → i < k → first_below k p ≡ some i
-  unfolding first_below
-  search_hit i k e h l = le_ind (λ j. first_below j p ≡ some i) (rw (e, h)) (λ j m q. rw (q, first_below)) k l
-
--- what a search by rising rows tells, of the row i that it has come to
-module _ (h γ : ℕ → ℕ) (v c i : ℕ) (so_far : row_on h γ i v c ≡ none) where
-  pub on_hit : (k : ℕ) → h i ≡ v → γ i ≡ c → i < k → row_on h γ k v c ≡ told k i
-  on_hit k x y l = search_hit _ i k so_far (same_test _ true (λ t. tt, λ t. (stands_iff h γ v c i).1 (x, y))) l ∙ sym (told_there k i l)
-
-  pub on_miss : ((h i ≡ v) × (γ i ≡ c) → ⊥) → row_on h γ (i + 1) v c ≡ none
-  on_miss n = search_miss _ i so_far (same_test _ false (λ t. n ((stands_iff h γ v c i).0 t), λ t. absurd t))
-
-  pub on_end : (k : ℕ) → i ≡ k → row_on h γ k v c ≡ told k i
-  on_end k q = rw (← q) (so_far ∙ sym (told_nothing i i (omega arith)))
+-- ---- a search for the call on a central
 
 -- one stands there, and no other; or none does
 module _ (h γ : ℕ → ℕ) (k v c : ℕ) where
@@ -68,6 +48,33 @@ module _ (h γ : ℕ → ℕ) (k v c : ℕ) where
       go : {o : Option ℕ} → Standing h γ k v c o → o ≡ none
       go (row i m p q) = absurd (n i m p q)
       go (free w) = refl
+
+-- none below i passes, and i does
+search_hit : (p : ℕ → Bool) (i k : ℕ) → first_below i p ≡ none → p i ≡ true → i < k → first_below k p ≡ some i
+unfolding first_below
+search_hit p i k e h l = le_ind (λ j. first_below j p ≡ some i) (rw (e, h)) (λ j m q. rw (q, first_below)) k l
+
+search_miss : (p : ℕ → Bool) (i : ℕ) → first_below i p ≡ none → p i ≡ false → first_below (i + 1) p ≡ none
+unfolding first_below
+search_miss p i e n = rw (add-one i, e, n)
+
+-- what a search by rising rows tells, of the row i that it has come to
+module _ (h γ : ℕ → ℕ) (v c i : ℕ) (so_far : row_on h γ i v c ≡ none) where
+  pub on_hit : (k : ℕ) → h i ≡ v → γ i ≡ c → i < k → row_on h γ k v c ≡ told k i
+  on_hit k x y l = search_hit _ i k so_far (same_test _ true (λ t. tt, λ t. (stands_iff h γ v c i).1 (x, y))) l ∙ sym (told_there k i l)
+
+  pub on_miss : ((h i ≡ v) × (γ i ≡ c) → ⊥) → row_on h γ (i + 1) v c ≡ none
+  on_miss n = search_miss _ i so_far (same_test _ false (λ t. n ((stands_iff h γ v c i).0 t), λ t. absurd t))
+
+  pub on_end : (k : ℕ) → i ≡ k → row_on h γ k v c ≡ told k i
+  on_end k q = rw (← q) (so_far ∙ sym (told_nothing i i (omega arith)))
+
+-- what a search by rising rows finds: the first row that stands there, or none where none does
+pub search_answer : (h γ : ℕ → ℕ) (k v c : ℕ) (answer : Answer ℕ)
+    → MatchOption answer ((i : ℕ) → 0 ≤ i → i < k → (h i ≡ v) × (γ i ≡ c) → ⊥) (λ i. (0 ≤ i) × (i < k) × ((h i ≡ v) × (γ i ≡ c)) × ((j : ℕ) → 0 ≤ j → j < i → (h j ≡ v) × (γ j ≡ c) → ⊥))
+    → row_on h γ k v c ≡ found_by answer
+search_answer h γ k v c None none_there = on_none h γ k v c (λ i l x y. none_there i (omega arith) l (x, y))
+search_answer h γ k v c (Some i) first = search_hit (stands h γ v c) i k (on_none h γ i v c (λ j l x y. first.3 j (omega arith) l (x, y))) (same_test _ true (λ t. tt, λ t. (stands_iff h γ v c i).1 first.2)) first.1
 
 -- ---- from the rule's chain to the chain of the steps
 
@@ -291,34 +298,37 @@ pub not_twice : (b : Bool) → not (not b) ≡ b
 not_twice true = refl
 not_twice false = refl
 
--- A chain step: the row `from` takes `central`, and `row` is what the search for a call that stands on it there has told.
-pub record Stepping (output : Bool) (rows : List ℕ) (from central left row : ℕ) : Type 0 where
+-- A chain step: the row `from` takes `central`, and `found` is the call that stands on it there, if there is one.
+pub record Stepping (output : Bool) (rows : List ℕ) (from central left : ℕ) (found : Option ℕ) : Type 0 where
   pub mendable : Mendable output rows from central left
-  pub searched : row_on (module_in rows output) (at (centrals_of rows)) (length rows / 3 - 1) (module_in rows output from) central ≡ told (length rows / 3 - 1) row
+  pub searched : row_on (module_in rows output) (at (centrals_of rows)) (length rows / 3 - 1) (module_in rows output from) central ≡ found
 
-module _ {output : Bool} {rows : List ℕ} {from central left row : ℕ} (s : Stepping output rows from central left row) where
+module _ {output : Bool} {rows : List ℕ} {from central left : ℕ} {found : Option ℕ} (s : Stepping output rows from central left found) where
   abbrev after_change : List ℕ
   after_change = set rows (3 * from + 1) central
 
-  searched_in : (k : ℕ) → length rows ≡ 3 * suc k → row_on (module_in rows output) (at (centrals_of rows)) k (module_in rows output from) central ≡ told k row
+  searched_in : (k : ℕ) → length rows ≡ 3 * suc k → row_on (module_in rows output) (at (centrals_of rows)) k (module_in rows output from) central ≡ found
   searched_in k w = let q : length rows / 3 - 1 ≡ k = omega arith in rw q at s.searched
 
   -- No call stands there: the chain has ended.
-  pub mended_end : {chain : List ℕ} → length rows ≤ 3 * row + 3 → Mended output rows after_change chain chain from central left left
+  pub mended_end : {chain : List ℕ} → found ≡ none → Mended output rows after_change chain chain from central left left
   unfolding telling
   mended_end e = record {
     by_the_rows = λ k es after w m.
-        let n = mends_none m (searched_in k w ∙ told_nothing k row (omega arith)) in
+        let n = mends_none m (searched_in k w ∙ e) in
         rw (n.0, n.1) (recolour rows from central, refl, omega arith);
   }
 
   -- A call stands there: it takes the central that the row had, and the chain goes on from it.
-  module _ (there : 3 * row + 3 < length rows) where
+  module _ {row : ℕ} (there : found ≡ some row) where
+    below : row < s.mendable.k
+    below = row_below (module_in rows output) (at (centrals_of rows)) s.mendable.k (module_in rows output from) central row (searched_in s.mendable.k s.mendable.whole ∙ there)
+
     goes_on_there : (k : ℕ) (es after : List ℕ) → length rows ≡ 3 * suc k → MendsIn k output rows from central es after
         → (rest : List ℕ) × (es ≡ row ∷ rest) × MendsIn k (not output) after_change row (at (centrals_of rows) from) rest after
-    goes_on_there k es after w m =
+    goes_on_there k moved after w m =
         let g = recolour rows from central in
-        let t = mends_some row m (searched_in k w ∙ told_there k row (omega arith)) in
+        let t = mends_some row m (searched_in k w ∙ there) in
         let same : (side : Bool) → module_in rows side ≡ module_in after_change side = λ side. sym (ap (λ (sides : Bool → ℕ → ℕ). sides side) (modules_same g)) in
         (t.0, t.1, same_mends (same (not output)) (same output ∙ ap (module_in after_change) (sym (not_twice output))) (sym g.centrals) t.2)
 
@@ -330,7 +340,7 @@ module _ {output : Bool} {rows : List ℕ} {from central left row : ℕ} (s : St
     some_left = omega (arith, ap length rest_here.1, s.mendable.enough)
 
     pub tell_room : (left - 1 < chain_places) × (row < most_calls)
-    tell_room = let m = s.mendable in let one = some_left in (omega (arith, m.places), omega (arith, m.small, m.whole))
+    tell_room = let m = s.mendable in let one = some_left in (omega (arith, m.places), omega (arith, m.small, below))
 
     pub mendable_on : {rows₁ : List ℕ} {other : ℕ} → rows₁ ≡ after_change → other ≡ at (centrals_of rows) from → Mendable (not output) rows₁ row other (left - 1)
     mendable_on e o =
@@ -339,7 +349,7 @@ module _ {output : Bool} {rows : List ℕ} {from central left row : ℕ} (s : St
           k = m.k;
           whole = length-set rows (3 * from + 1) central ∙ m.whole;
           small = m.small;
-          row = omega (arith, m.whole);
+          row = omega (arith, below);
           es = rest_here.0;
           after = m.after;
           mends = rest_here.2;

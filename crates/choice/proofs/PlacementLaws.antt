@@ -1,12 +1,12 @@
 -- One placement, as the code does it, is one step of the choice rule, and leaves the record right at every module.
 --   search_both, search_one     == a search of the record is the rule's search
 --   Searched net rows k used chain a b == no central is common, and a and b are what the searches found
---   recorded_so_far, recordable_common, placed_common == a common central: before its row is recorded, and after
---   first_free, small_a, small_b == a search at one module finds a central
+--   recorded_so_far, small_common, recordable_common, placed_common == a common central: before its row is recorded, and after
+--   one_free, first_free, small_a, small_b == a search at one module finds a central, one of the shelf's own
 --   chain_room, mendable, left_few, last_small, last_held, end_small == the chain can be walked, and its last row
 --   placed_by_chain             == what a chain leaves
 --   small_modules               == the modules of the rows have a number in the record
-use Rattle.std.specs.Prelude.{◌≡◌, ◌⊎◌, Bool, ◌&&◌, List, [], ◌∷◌, ◌++◌, get_or, set}
+use Rattle.std.specs.Prelude.{◌≡◌, ◌⊎◌, Bool, ◌&&◌, List, [], ◌∷◌, ◌++◌, get_or, set, Option as Answer, Some, None, IsSome}
 use Rattle.std.proofs.Math.Path.{refl, sym, ap}
 use Rattle.std.proofs.Common.{◌∙◌, inl, inr, true≢false, eq-eqb, ne_eqb}
 use Rattle.std.proofs.Math.Bool.{true, false, not, cond}
@@ -29,16 +29,16 @@ use Rattle.shelf.specs.OrderLaws.{order_own, order_distinct}
 use Rattle.choice.specs.Rule.{at, first_of, is_free, exchange}
 use Rattle.choice.specs.Colouring.{Free}
 use Rattle.choice.specs.Rows.{module_in, centrals_of, Recoloured}
-use Rattle.choice.specs.Record.{module_number, in_use, both_free, taking, swapping, told_central, Recorded, Recordable}
+use Rattle.choice.specs.Record.{module_number, in_use, both_free, taking, swapping, found_by, told_central, Recorded, Recordable}
 use Rattle.choice.specs.Placement.{chain_places, telling, MendsIn, Mendable, Mended, earlier, step_in, Placeable, Placed, NoCommon}
-use Rattle.choice.proofs.Search.{first_none}
+use Rattle.choice.proofs.Search.{first_some, first_none}
 use Rattle.choice.proofs.Chain.{Two}
 use Rattle.choice.proofs.Exchange.{exchange_first, exchange_second, exchange_other, one_of}
 use Rattle.choice.proofs.Count.{some_free}
 use Rattle.choice.proofs.StepLaws.{ChainStart, step_chain, after_chain, step_common, step_by_chain, searched, starts, chain_few, chain_start, chain_rows, placed_same, placed_new}
 use Rattle.choice.proofs.UseAfter.{end_of, odd, end_last, odd_length, use_chain_α, use_chain_β}
 use Rattle.choice.proofs.RowsLaws.{last_taken, earlier_length, modules_same, recolour, recolour_again}
-use Rattle.choice.proofs.RecordLaws.{told_there, told_nothing, use_of, same_side, use_taking, use_swapping, taking_size, swapping_size, taken_or, recorded_same}
+use Rattle.choice.proofs.RecordLaws.{told_nothing, use_of, same_side, use_taking, use_swapping, taking_size, swapping_size, taken_or, recorded_same}
 use Rattle.choice.proofs.Mending.{mends_chain, same_mends, not_twice, told_row}
 
 -- two tests that agree on a list have the same first
@@ -109,9 +109,12 @@ module _ {net : Network} {rows : List ℕ} {k : ℕ} {used chain : List ℕ} (h 
 
   -- ---- a common central
 
-  module _ (c : ℕ) (found : first_of (order net) (both_free used (module_number false (module_in rows false k)) (module_number true (module_in rows true k))) ≡ told_central c) (l : c < most_centrals) where
+  module _ (c : ℕ) (found : first_of (order net) (both_free used (module_number false (module_in rows false k)) (module_number true (module_in rows true k))) ≡ some c) where
+    pub small_common : c < most_centrals
+    small_common = small_central c (first_some (order net) _ c found).0
+
     step_is_common : step_in net rows k ≡ record { centrals = earlier rows k ++ (c ∷ []); moved = [] }
-    step_is_common = step_common _ _ (order net) (earlier rows k) k c (sym (search_both false true) ∙ found ∙ told_there most_centrals c l)
+    step_is_common = step_common _ _ (order net) (earlier rows k) k c (sym (search_both false true) ∙ found)
 
     pub recordable_common : Recordable (set rows (3 * k + 1) c) (k + 1)
     recordable_common = record {
@@ -121,7 +124,7 @@ module _ {net : Network} {rows : List ℕ} {k : ℕ} {used chain : List ℕ} (h 
     }
       where
         small : (i : ℕ) → (i ≡ k) ⊎ (i < k) → at (centrals_of (set rows (3 * k + 1) c)) i < most_centrals
-        small i (inl e) = rw (e, last_taken rows k c h.whole, placed_new (earlier rows k) k c (earlier_length rows k h.whole)) l
+        small i (inl e) = rw (e, last_taken rows k c h.whole, placed_new (earlier rows k) k c (earlier_length rows k h.whole)) small_common
         small i (inr m) = rw (← same_so_far c i m) (small_central _ (h.fine.inside i m))
 
     pub placed_common : {used' : List ℕ} → Recorded (module_in (set rows (3 * k + 1) c)) (at (centrals_of (set rows (3 * k + 1) c))) (k + 1) used'
@@ -138,12 +141,17 @@ module _ {net : Network} {rows : List ℕ} {k : ℕ} {used chain : List ℕ} (h 
 
   -- ---- the first central that is free at one module
 
-  -- some central is free at each module of the call, so that what the search of the record answers is one of the shelf's own
+  -- some central is free at each module of the call, so that a search of the record finds one
+  pub one_free : (s : Bool) (answer : Answer ℕ) → first_of (order net) (both_free used (module_number s (module_in rows s k)) (module_number s (module_in rows s k))) ≡ found_by answer → IsSome answer
+  one_free s (Some c) e = refl
+  one_free s None e =
+      absurd (some_free (module_in rows s) (at (earlier rows k)) k (module_in rows s k) (order net) (order_distinct net) (h.room s)
+      (first_none (order net) (is_free (module_in rows s) (at (earlier rows k)) k (module_in rows s k)) (sym (search_one s) ∙ e)))
+
+  -- and where it answers a number, this is one of the shelf's own
   pub first_free : (s : Bool) (c : ℕ) → first_of (order net) (both_free used (module_number s (module_in rows s k)) (module_number s (module_in rows s k))) ≡ told_central c → c < most_centrals
   first_free s c e =
-      let n : ¬ (most_centrals ≤ c) = λ l.
-      some_free (module_in rows s) (at (earlier rows k)) k (module_in rows s k) (order net) (order_distinct net) (h.room s)
-      (first_none (order net) (is_free (module_in rows s) (at (earlier rows k)) k (module_in rows s k)) (sym (search_one s) ∙ e ∙ told_nothing most_centrals c l)) in
+      let n : ¬ (most_centrals ≤ c) = λ l. some_free (module_in rows s) (at (earlier rows k)) k (module_in rows s k) (order net) (order_distinct net) (h.room s) (first_none (order net) (is_free (module_in rows s) (at (earlier rows k)) k (module_in rows s k)) (sym (search_one s) ∙ e ∙ told_nothing most_centrals c l)) in
       omega arith
 
 -- ---- a chain
@@ -152,8 +160,8 @@ module _ {net : Network} {rows : List ℕ} {k : ℕ} {used chain : List ℕ} (h 
 pub record Searched (net : Network) (rows : List ℕ) (k : ℕ) (used chain : List ℕ) (a b : ℕ) : Type 0 where
   pub placeable : Placeable net rows k used chain
   pub nothing_common : NoCommon net rows k used
-  pub first_a : first_of (order net) (both_free used (module_number false (module_in rows false k)) (module_number false (module_in rows false k))) ≡ told_central a
-  pub first_b : first_of (order net) (both_free used (module_number true (module_in rows true k)) (module_number true (module_in rows true k))) ≡ told_central b
+  pub first_a : first_of (order net) (both_free used (module_number false (module_in rows false k)) (module_number false (module_in rows false k))) ≡ some a
+  pub first_b : first_of (order net) (both_free used (module_number true (module_in rows true k)) (module_number true (module_in rows true k))) ≡ some b
 
 -- the last row of a list that has one
 last_in : (e : ℕ) (es : List ℕ) → In (get_or (e ∷ es) (length es) 0) (e ∷ es)
@@ -180,19 +188,19 @@ module _ {net : Network} {rows : List ℕ} {k : ℕ} {used chain : List ℕ} {a 
   size = earlier_length rows k h.whole
 
   pub small_a : a < most_centrals
-  small_a = first_free h false a s.first_a
+  small_a = small_central h a (first_some (order net) _ a s.first_a).0
 
   pub small_b : b < most_centrals
-  small_b = first_free h true b s.first_b
+  small_b = small_central h b (first_some (order net) _ b s.first_b).0
 
   none_common : first_of (order net) (λ x. is_free α (at cs) k (α k) x && is_free β (at cs) k (β k) x) ≡ none
-  none_common = sym (search_both h false true) ∙ s.nothing_common.searched ∙ told_nothing most_centrals _ s.nothing_common.none_below
+  none_common = sym (search_both h false true) ∙ s.nothing_common.searched
 
   a_is : first_of (order net) (is_free α (at cs) k (α k)) ≡ some a
-  a_is = sym (search_one h false) ∙ s.first_a ∙ told_there most_centrals a small_a
+  a_is = sym (search_one h false) ∙ s.first_a
 
   b_is : first_of (order net) (is_free β (at cs) k (β k)) ≡ some b
-  b_is = sym (search_one h true) ∙ s.first_b ∙ told_there most_centrals b small_b
+  b_is = sym (search_one h true) ∙ s.first_b
 
   free_both : In a (order net) × In b (order net) × Free α (at cs) k (α k) a × Free β (at cs) k (β k) b × (Free β (at cs) k (β k) a → ⊥)
   free_both = searched α β (order net) cs k a b none_common a_is b_is

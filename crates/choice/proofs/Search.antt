@@ -3,6 +3,7 @@
 --   Picked order p o    == o is a central of the order that passes the test, or none does
 --   Standing f γ k v c o == o is a row below k that stands there, or the central is free there
 --   found, picked, standing, stands_iff, free_iff == each search has its view
+--   row_below           == a row that a search finds is below k
 --   first_some, first_none, first_found, first_over == a search of the order whose answer is known, and one whose least is known
 --   rows_pass, rows_hold, rows_distinct == the rows that pass a test
 use Rattle.std.specs.Prelude.{◌≡◌, refl, ◌⊎◌, ◌↔◌, Bool, true, false, List, [], ◌∷◌, eqb}
@@ -119,6 +120,13 @@ module _ (f γ : ℕ → ℕ) (k v c : ℕ) where
       go : {o : Option ℕ} → Found (stands f γ v c) k o → Standing f γ k v c o
       go (hit i h t m) = let p = (stands_iff f γ v c i).0 t in row i h p.0 p.1
       go (miss m) = free (λ q l x y. m q l ((stands_iff f γ v c q).1 (x, y)))
+
+  pub row_below : (e : ℕ) → row_on f γ k v c ≡ some e → e < k
+  row_below e = go standing
+    where
+      go : {o : Option ℕ} → Standing f γ k v c o → o ≡ some e → e < k
+      go (row i l x y) q = let z : i ≡ e = cc in rw z at l
+      go (free w) q = let z : ◌≡◌ {A = ℕ} 0 1 = cc in omega arith
 
   -- the test `is_free` says what it should
   pub free_iff : T (is_free f γ k v c) ↔ Free f γ k v c

@@ -12,13 +12,13 @@
 use Rattle.std.specs.Prelude.{◌≡◌, Bool, true, false, not, List, [], ◌∷◌, ℕ, suc, ◌+◌, ◌*◌, ◌-◌, ◌≤◌, ◌<◌, T, length, set, take}
 use Rattle.std.proofs.Math.Option.{none, some}
 use Rattle.shelf.specs.declared.Network.{Network}
-use Rattle.shelf.specs.Network.{most_modules, most_centrals, most_calls, within_limits}
+use Rattle.shelf.specs.Network.{most_modules, most_calls, within_limits}
 use Rattle.shelf.specs.Order.{order}
 use Rattle.shelf.specs.Rows.{ModulesBelow}
 use Rattle.choice.specs.Rule.{at, first_of, row_on, step, Step}
 use Rattle.choice.specs.Colouring.{at_module, Fine}
 use Rattle.choice.specs.Rows.{module_in, centrals_of, Recoloured}
-use Rattle.choice.specs.Record.{module_number, both_free, told_central, Recorded}
+use Rattle.choice.specs.Record.{module_number, both_free, Recorded}
 
 pub data Mends (k : ℕ) : (h f : ℕ → ℕ) (cs : List ℕ) (from central : ℕ) (es after : List ℕ) → Type 0 where
   stop : {h f : ℕ → ℕ} {cs : List ℕ} {from central : ℕ} → row_on h (at cs) k (h from) central ≡ none → Mends k h f cs from central [] (set cs from central)
@@ -79,6 +79,4 @@ pub record Placed (net : Network) (rows rows' : List ℕ) (k : ℕ) (used' chain
   pub recorded : Recorded (module_in rows) (at (step_in net rows k).centrals) (suc k) used'
 
 pub record NoCommon (net : Network) (rows : List ℕ) (k : ℕ) (used : List ℕ) : Type 0 where
-  pub common : ℕ
-  pub none_below : most_centrals ≤ common
-  pub searched : first_of (order net) (both_free used (module_number false (module_in rows false k)) (module_number true (module_in rows true k))) ≡ told_central common
+  pub searched : first_of (order net) (both_free used (module_number false (module_in rows false k)) (module_number true (module_in rows true k))) ≡ none

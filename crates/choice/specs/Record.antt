@@ -1,5 +1,5 @@
 -- The record of the centrals in use: one word for each module of each side, with a bit for each central, set where it is in use.
--- Only this file and its laws (RecordLaws) know that it is words.
+-- Only this file and its laws (RecordLaws) know what the words say.
 --   modules_of_both        == how many modules the two sides of the largest network have
 --   module_number output v == the number of module v among those of both sides
 --   record_size, nothing_used == the words of the record, and the record of no calls
@@ -7,11 +7,12 @@
 --   both_free used p q c  == central c is free at both modules
 --   taking used p c      == the record with c taken there
 --   swapping used p a b  == the record with the use of a and b exchanged there
---   told k n             == what the answer n of a search below k tells: this number, or none where it is not below k
+--   found_by answer      == what a search has found, by its answer in the code
+--   told k n             == the same where a search below k answers a number: this number, or none where it is not below k
 --   told_central c        == the same of a search for a central
 --   Recorded side γ k used == the record says of every module and central whether it is free, of the rows below k
 --   Recordable rows k    == a record can be made of the rows below k
-use Rattle.std.specs.Prelude.{◌≡◌, Bool, true, false, not, ◌&&◌, List, ℕ, ◌+◌, ◌*◌, ◌≤◌, ◌<◌, ltb, length, replicate}
+use Rattle.std.specs.Prelude.{◌≡◌, Bool, true, false, not, ◌&&◌, List, ℕ, ◌+◌, ◌*◌, ◌≤◌, ◌<◌, ltb, length, replicate, Option as Answer, Some, None}
 use Rattle.std.proofs.Math.Option.{Option, none, some}
 use Rattle.ground.specs.Words.{bit_at, put_at}
 use Rattle.shelf.specs.Network.{most_modules, most_centrals}
@@ -42,6 +43,10 @@ taking used p c = put_at used p c true
 
 unfoldable pub swapping : List ℕ → ℕ → ℕ → ℕ → List ℕ
 swapping used p a b = put_at (put_at used p a (bit_at used p b)) p b (bit_at used p a)
+
+abbrev pub found_by : Answer ℕ → Option ℕ
+found_by (Some i) = some i
+found_by None = none
 
 unfoldable pub told : ℕ → ℕ → Option ℕ
 told k n = elim (ltb n k) [ true ↦ some n | false ↦ none ]

@@ -8,7 +8,7 @@
 --   whole_laid            == what the last step asks of a layout, where the reader does not refuse
 --   with_kinds            == the guarantee for equal kinds
 --   one_answer            == two answers that satisfy the guarantee are the same, with the buffers that they leave
-use Rattle.std.specs.Prelude.{◌≡◌, ◌↔◌, Bool, List, ℕ, ◌+◌, ◌≤◌, ◌<◌, T, ltb, length}
+use Rattle.std.specs.Prelude.{◌≡◌, ◌↔◌, Bool, List, ℕ, ◌+◌, ◌≤◌, ◌<◌, T, ltb, length, Ok, Err}
 use Rattle.std.proofs.Math.Path.{refl, ap, subst}
 use Rattle.std.proofs.Common.{sym, ◌∙◌}
 use Rattle.std.proofs.Math.Logic.Iff
@@ -25,7 +25,6 @@ use Rattle.calls.specs.Verdict.{success, ◌⨾◌, in_turn, answer}
 use Rattle.calls.specs.VerdictLaws.{turn_stops, turn_goes_on, answer_passes, answer_refused, answer_passed, answer_success, refused_zero}
 use Rattle.trailer.specs.declared.Kinds.{Kinds}
 use Rattle.trailer.specs.declared.Layout.{Layout}
-use Rattle.trailer.specs.declared.Trailer.TheVariants.{Whole, Refused}
 use Rattle.trailer.specs.File.{has_settings, kind_with, trailer_length, file_of}
 use Rattle.trailer.proofs.FileLaws.{rows_part, length_file}
 use Rattle.trailer.proofs.KindLaws.{kind_byte}
@@ -119,7 +118,7 @@ module _ (kinds : Kinds) (cycle : Bool) (file before : List ℕ) where
     ),
   )
 
-  pub kept_converts : (v : Verdict) → Refused v ≡ file_answer kinds file → Converts kinds cycle file before before v
+  pub kept_converts : (v : Verdict) → Err v ≡ file_answer kinds file → Converts kinds cycle file before before v
   unfolding file_answer conversion_verdict conversion_checks conversion_buffer
   kept_converts v e =
       let is-reader = (refused_case _ _ v e).1 in
@@ -135,7 +134,7 @@ module _ (kinds : Kinds) (cycle : Bool) (file before : List ℕ) where
         least_cycle = λ z. absurd (m z);
       }
 
-  module _ (layout : Layout) (e : Whole layout ≡ file_answer kinds file) where
+  module _ (layout : Layout) (e : Ok layout ≡ file_answer kinds file) where
     is_whole : ((reader_verdict kinds file).number ≡ 0) × (layout ≡ layout_of file)
     unfolding file_answer
     is_whole = whole_case _ _ layout e

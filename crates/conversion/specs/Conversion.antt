@@ -1,4 +1,5 @@
 -- What the conversions answer and what they leave in the buffer, as functions of their input: one definition for both ways.
+--   kinds_for to, cycle_for to == the kinds that are converted this way, and whether the files that are made hold the cycle
 --   recast_file cycle layout file == the parts of a file with this layout, as a file with the cycle or without it
 --   recast_checks cycle layout file room == 18 and 4
 --   converted_file cycle file == the converted file
@@ -6,7 +7,7 @@
 --   conversion_verdict .., conversion_buffer .. == the answer, and the buffer afterwards
 --   Recasts, Converts     == what the functions guarantee
 --   as_kind kind told      == what is told, but for the kind
-use Rattle.std.specs.Prelude.{◌≡◌, Bool, cond, List, [], ◌∷◌, ℕ, T, eqb, length}
+use Rattle.std.specs.Prelude.{◌≡◌, Bool, true, false, cond, List, [], ◌∷◌, ℕ, T, eqb, length}
 use Rattle.ground.specs.Bytes.{part, front}
 use Rattle.shelf.specs.Network.{has_least_cycle}
 use Rattle.calls.specs.declared.Verdict.{Verdict}
@@ -14,10 +15,21 @@ use Rattle.calls.specs.Verdict.{answer}
 use Rattle.trailer.specs.declared.Kinds.{Kinds}
 use Rattle.trailer.specs.declared.Layout.{Layout}
 use Rattle.trailer.specs.declared.Told.{Told}
-use Rattle.trailer.specs.File.{has_settings, kind_with, takes, file_of}
+use Rattle.trailer.specs.File.{has_settings, kind_with, old_kinds, new_kinds, takes, file_of}
 use Rattle.trailer.specs.Trailer.{kind_in, told_net, layout_of}
 use Rattle.planfile.specs.Reader.{reader_verdict}
 use Rattle.planwriter.specs.Writer.{short_buffer, other_cycle}
+use Rattle.conversion.specs.declared.To.{To}
+use Rattle.conversion.specs.declared.To.TheVariants.{New, Old}
+
+-- "Old files convert to new and new to old"
+abbrev pub kinds_for : To → Kinds
+kinds_for New = old_kinds
+kinds_for Old = new_kinds
+
+abbrev pub cycle_for : To → Bool
+cycle_for New = true
+cycle_for Old = false
 
 -- "Old files convert to new and new to old": note, calls, settings and network stay, and the kind has the cycle or not
 unfoldable pub recast_file : Bool → Layout → List ℕ → List ℕ

@@ -2,68 +2,73 @@
 // refused. That there and back gives the first file's bytes is a law over the two (proofs/ThereAndBack.antt).
 #![tactic(auto)]
 
-ghost use Rattle.std.specs.Prelude.{true, false, ◌≤◌, length};
+ghost use Rattle.std.specs.Prelude.{◌≡◌, ◌≤◌, length};
 ghost use Rattle.shelf.specs.Network.{most_calls};
-ghost use Rattle.trailer.specs.File.{old_kinds, new_kinds};
+ghost use Rattle.calls.specs.Refusal.{answered_by};
 ghost use Rattle.trailer.specs.Trailer.{LaidOut};
-ghost use Rattle.conversion.specs.Conversion.{Recasts, Converts};
+ghost use Rattle.conversion.specs.Conversion.{kinds_for, cycle_for, Recasts, Converts};
 
-use calls::Verdict;
-use trailer::{Kinds, Layout, Trailer};
+use calls::Refusal;
+use planwriter::Parts;
+use trailer::{Kind, Kinds, Layout};
 
-// Converts a file of kind 1 or 2 to one of kind 3 or 4, at the front of `out`: 0 and K, or the first refusal in the reader's order, with 14 for
-// any other kind, then 18, then 4. A refusal changes no byte, and bytes beyond the file keep their values. Nothing is asked of the input.
-pub fn convert_to_new(file: &[u8], out: &mut [u8]) -> Verdict
-    ensures { Converts old_kinds true file.now out.old out.new result }
-{
-    convert(Kinds::old(), true, file, out)
+// Which way a file is converted: to a new file, which holds the cycle, or to an old one, which does not.
+#[derive(Clone, Copy, Debug, PartialEq, Eq)]
+pub enum To {
+    New,
+    Old,
 }
 
-// Converts a file of kind 3 or 4 to one of kind 1 or 2 in the same way: 18 where its cycle is not the larger of r and m, since an old file
-// could not tell it.
-pub fn convert_to_old(file: &[u8], out: &mut [u8]) -> Verdict
-    ensures { Converts new_kinds false file.now out.old out.new result }
-{
-    convert(Kinds::with_cycle(), false, file, out)
-}
-
-// Converts a file of one of these kinds to one with the cycle or without it.
-fn convert(kinds: Kinds, cycle: bool, file: &[u8], out: &mut [u8]) -> Verdict
-    ensures { Converts kinds cycle file.now out.old out.new result }
-{
-    let answer = planfile::check_file(kinds, file);
-    match answer {
-        Trailer::Whole(layout) => recast(cycle, layout, file, out),
-        Trailer::Refused(refusal) => refusal,
+impl To {
+    // The kinds of the files that are converted this way: those of the other files.
+    fn kinds(self) -> Kinds
+        ensures { result ≡ kinds_for self }
+    {
+        match self {
+            To::New => Kinds::old(),
+            To::Old => Kinds::with_cycle(),
+        }
     }
+
+    // Whether the files that are made hold the cycle.
+    fn has_cycle(self) -> bool
+        ensures { result ≡ cycle_for self }
+    {
+        match self {
+            To::New => true,
+            To::Old => false,
+        }
+    }
+}
+
+// Converts an old file, of kind 1 or 2, to one of kind 3 or 4, or a new file back, at the front of `out`: K, or the first refusal in the reader's
+// order, with 14 for any other kind, then 18, then 4. 18 is for a cycle that is not the larger of r and m, since an old file could not tell it. A
+// refusal changes no byte, and bytes beyond the file keep their values. Nothing is asked of the input.
+pub fn convert(to: To, file: &[u8], out: &mut [u8]) -> Result<usize, Refusal>
+    ensures { Converts (kinds_for to) (cycle_for to) file.now out.old out.new (answered_by result) }
+{
+    let layout = planfile::check_file(to.kinds(), file)?;
+    recast(to, layout, file, out)
 }
 
 // Puts the parts of a file with this layout into a file with the cycle or without it, or refuses with 18 or 4.
-fn recast(cycle: bool, layout: Layout, file: &[u8], out: &mut [u8]) -> Verdict
+fn recast(to: To, layout: Layout, file: &[u8], out: &mut [u8]) -> Result<usize, Refusal>
     requires { LaidOut (length file.now) layout × (layout.count ≤ most_calls) }
-    ensures { Recasts cycle layout file.now out.old out.new result }
+    ensures { Recasts (cycle_for to) layout file.now out.old out.new (answered_by result) }
 {
     let net = layout.net;
     if !net.has_least_cycle() {
-        return Verdict { number: 18, row: 0 };
+        return Err(Refusal::UntoldCycle);
     }
-    let kind = trailer::kind_with(trailer::has_settings(layout.kind), cycle);
-    let trailer_at = layout.trailer_at;
-    if out.len() < trailer_at + trailer::trailer_length(kind) {
-        return Verdict { number: 4, row: 0 };
+    let kind = Kind::with(trailer::has_settings(layout.kind), to.has_cycle()).number();
+    if out.len() < layout.trailer_at + trailer::trailer_length(kind) {
+        return Err(Refusal::NoRoom);
     }
-    let calls_at = layout.calls_at;
-    let settings_at = layout.settings_at;
-    planwriter::put_file(
-        net,
-        kind,
-        &file[0..calls_at],
-        &file[calls_at..settings_at],
-        &file[settings_at..trailer_at],
-        out,
-    );
-    Verdict {
-        number: 0,
-        row: layout.count,
-    }
+    let parts = Parts {
+        note: &file[..layout.calls_at],
+        calls: &file[layout.calls_at..layout.settings_at],
+        settings: &file[layout.settings_at..layout.trailer_at],
+    };
+    planwriter::put_file(net, kind, parts, out);
+    Ok(layout.count)
 }

@@ -1,5 +1,8 @@
-// The eleven entries for programs in C and Rust. Each has its entry's own contract, on its entry's own records, so what is proved
-// of an entry holds of its export, and so does every law over its guarantee. Nothing is asked of the input.
+// The eleven entries for programs in C and Rust, which take an answer as a record of numbers: 0 or the number of a refusal first. Each has
+// its entry's own contract, on the record that the entry's answer tells, so what is proved of an entry holds of its export, and so does
+// every law over its guarantee. Network, calls and settings stay parameters of their own, and so does each buffer, since C hands each on by
+// itself. There is an export for each kind of file and for each way of a conversion, since programs in C call them by
+// these names. Nothing is asked of the input.
 #![tactic(auto)]
 
 ghost use Rattle.std.specs.Prelude.{true, false};
@@ -13,16 +16,18 @@ ghost use Rattle.planwriter.specs.Writer.{Writes};
 ghost use Rattle.conversion.specs.Conversion.{Converts};
 
 use calls::Verdict;
+use conversion::To;
 use planner::Planned;
+use planwriter::Parts;
 use shelf::Network;
-use trailer::Told;
+use trailer::{Kind, Told};
 
 // Settings for the calls, at the front of `settings`.
 #[unsafe(no_mangle)]
 pub extern "C" fn bolikwaru_plan(net: Network, calls: &[u8], settings: &mut [u8]) -> Planned
     ensures { Plans net calls.now settings.old settings.new result }
 {
-    planner::plan(net, calls, settings)
+    Planned::from(planner::plan(net, calls, settings))
 }
 
 // Whether the settings are lawful for the calls.
@@ -30,7 +35,7 @@ pub extern "C" fn bolikwaru_plan(net: Network, calls: &[u8], settings: &mut [u8]
 pub extern "C" fn bolikwaru_accept(net: Network, calls: &[u8], settings: &[u8]) -> Verdict
     ensures { Accepts net calls.now settings.now result }
 {
-    acceptance::accept(net, calls, settings)
+    Verdict::from(acceptance::accept(net, calls, settings))
 }
 
 // The table with one call more, settings for it, and the rows that were moved, at the front of the three buffers.
@@ -46,7 +51,7 @@ pub extern "C" fn bolikwaru_add(
 ) -> Planned
     ensures { AddsCall net calls.now settings.now call.now (record { calls = calls_after.old; settings = settings_after.old; moved = moved_rows.old }) (record { calls = calls_after.new; settings = settings_after.new; moved = moved_rows.new }) result }
 {
-    adding::add(
+    Planned::from(adding::add(
         net,
         calls,
         settings,
@@ -54,7 +59,7 @@ pub extern "C" fn bolikwaru_add(
         calls_after,
         settings_after,
         moved_rows,
-    )
+    ))
 }
 
 // The table and its settings without one row, at the front of the two buffers.
@@ -69,7 +74,7 @@ pub extern "C" fn bolikwaru_drop(
 ) -> Verdict
     ensures { DropsCall net calls.now settings.now row (record { calls = calls_after.old; settings = settings_after.old }) (record { calls = calls_after.new; settings = settings_after.new }) result }
 {
-    dropping::drop(net, calls, settings, row, calls_after, settings_after)
+    Verdict::from(dropping::drop(net, calls, settings, row, calls_after, settings_after))
 }
 
 // What a plan file tells.
@@ -77,7 +82,7 @@ pub extern "C" fn bolikwaru_drop(
 pub extern "C" fn bolikwaru_read(file: &[u8]) -> Told
     ensures { Reads all_kinds file.now result }
 {
-    planfile::read(file)
+    Told::from(planfile::read(file))
 }
 
 // A calls-only file, at the front of `out`.
@@ -91,7 +96,12 @@ pub extern "C" fn bolikwaru_write_calls(
 ) -> Verdict
     ensures { Writes calls_only net note.now calls.now settings.now out.old out.new result }
 {
-    planwriter::write_calls(net, note, calls, settings, out)
+    let parts = Parts {
+        note,
+        calls,
+        settings,
+    };
+    Verdict::from(planwriter::write(net, Kind::CallsOnly, parts, out))
 }
 
 // A planned file, at the front of `out`.
@@ -105,7 +115,12 @@ pub extern "C" fn bolikwaru_write_planned(
 ) -> Verdict
     ensures { Writes planned net note.now calls.now settings.now out.old out.new result }
 {
-    planwriter::write_planned(net, note, calls, settings, out)
+    let parts = Parts {
+        note,
+        calls,
+        settings,
+    };
+    Verdict::from(planwriter::write(net, Kind::Planned, parts, out))
 }
 
 // A calls-only file that holds the cycle, at the front of `out`.
@@ -119,7 +134,12 @@ pub extern "C" fn bolikwaru_write_calls_with_cycle(
 ) -> Verdict
     ensures { Writes calls_with_cycle net note.now calls.now settings.now out.old out.new result }
 {
-    planwriter::write_calls_with_cycle(net, note, calls, settings, out)
+    let parts = Parts {
+        note,
+        calls,
+        settings,
+    };
+    Verdict::from(planwriter::write(net, Kind::CallsWithCycle, parts, out))
 }
 
 // A planned file that holds the cycle, at the front of `out`.
@@ -133,7 +153,12 @@ pub extern "C" fn bolikwaru_write_planned_with_cycle(
 ) -> Verdict
     ensures { Writes planned_with_cycle net note.now calls.now settings.now out.old out.new result }
 {
-    planwriter::write_planned_with_cycle(net, note, calls, settings, out)
+    let parts = Parts {
+        note,
+        calls,
+        settings,
+    };
+    Verdict::from(planwriter::write(net, Kind::PlannedWithCycle, parts, out))
 }
 
 // An old file as a new one, at the front of `out`.
@@ -141,7 +166,7 @@ pub extern "C" fn bolikwaru_write_planned_with_cycle(
 pub extern "C" fn bolikwaru_convert_to_new(file: &[u8], out: &mut [u8]) -> Verdict
     ensures { Converts old_kinds true file.now out.old out.new result }
 {
-    conversion::convert_to_new(file, out)
+    Verdict::from(conversion::convert(To::New, file, out))
 }
 
 // A new file as an old one, at the front of `out`.
@@ -149,5 +174,5 @@ pub extern "C" fn bolikwaru_convert_to_new(file: &[u8], out: &mut [u8]) -> Verdi
 pub extern "C" fn bolikwaru_convert_to_old(file: &[u8], out: &mut [u8]) -> Verdict
     ensures { Converts new_kinds false file.now out.old out.new result }
 {
-    conversion::convert_to_old(file, out)
+    Verdict::from(conversion::convert(To::Old, file, out))
 }

@@ -12,38 +12,32 @@ pub fn byte_at(bytes: &[u8], at: usize) -> usize
     requires { at < length bytes.now }
     ensures { (result ≡ get_or bytes.now at 0) × (result < 256) }
 {
-    wide(bytes[at])
-}
-
-// A byte as a number.
-fn wide(byte: u8) -> usize
-    ensures { (result ≡ byte) × (result < 256) }
-{
-    byte as usize
+    usize::from(bytes[at])
 }
 
 // The two-byte number that stands at a position, its high byte first.
+#[tactic(auto, unfolding(crate::specs::Bytes::number_at))]
 pub fn number_at(bytes: &[u8], at: usize) -> usize
     requires { at + 2 ≤ length bytes.now }
     ensures { (result ≡ number_at bytes.now at) × (result < 65536) }
 {
-    let high = byte_at(bytes, at);
-    let low = byte_at(bytes, at + 1);
-    high * 256 + low
+    usize::from(u16::from_be_bytes([bytes[at], bytes[at + 1]]))
 }
 
 // The high byte of a two-byte number.
+#[tactic(auto, unfolding(crate::specs::Bytes::high_byte))]
 pub fn high_byte(value: usize) -> u8
     ensures { result ≡ high_byte value }
 {
-    (value / 256 % 256) as u8
+    value.to_le_bytes()[1]
 }
 
 // The low byte of a two-byte number.
+#[tactic(auto, unfolding(crate::specs::Bytes::low_byte))]
 pub fn low_byte(value: usize) -> u8
     ensures { result ≡ low_byte value }
 {
-    (value % 256) as u8
+    value.to_le_bytes()[0]
 }
 
 // Writes one byte into `out` at `at`, and tells the position behind it.
@@ -51,11 +45,11 @@ pub fn write_byte(out: &mut [u8], at: usize, byte: u8) -> usize
     requires { at < length out.old }
     ensures { Adds out.old out.new at result (byte ∷ []) }
 {
-    out[at] = byte;
-    at + 1
+    write_bytes(out, at, &[byte])
 }
 
-// Writes all bytes of `source` into `out` from `at` on, and tells the position behind them.
+// Writes all bytes of `source` into `out` from `at` on, and tells the position behind them. That position is counted and handed on,
+// since `Adds` promises it, and a writer goes on from there.
 pub fn write_bytes(out: &mut [u8], at: usize, source: &[u8]) -> usize
     requires { at + length source.now ≤ length out.old }
     ensures { Adds out.old out.new at result source.now }
@@ -66,6 +60,7 @@ pub fn write_bytes(out: &mut [u8], at: usize, source: &[u8]) -> usize
 }
 
 // Whether a bit of a word is set.
+#[tactic(auto, using(crate::specs::WordsLaws::shifted_bit), unfolding(crate::specs::Words::word_size))]
 pub fn has_bit(word: u32, bit: usize) -> bool
     requires { bit < word_size }
     ensures { result ≡ has_bit word bit }
@@ -74,6 +69,7 @@ pub fn has_bit(word: u32, bit: usize) -> bool
 }
 
 // The word with a bit set, or cleared; the others are kept.
+#[tactic(auto, unfolding(crate::specs::Words::word_size, crate::specs::Words::put_bit, crate::specs::Words::inverted))]
 pub fn put_bit(word: u32, bit: usize, set: bool) -> u32
     requires { bit < word_size }
     ensures { result ≡ put_bit word bit set }
@@ -83,17 +79,19 @@ pub fn put_bit(word: u32, bit: usize, set: bool) -> u32
 }
 
 // The word of the bits that neither word has set.
+#[tactic(auto, using(crate::specs::WordsLaws::neither_bit), unfolding(crate::specs::Words::word_size, crate::specs::Words::inverted))]
 pub fn neither(first: u32, second: u32) -> u32
     ensures { Neither first second result }
 {
     !(first | second)
 }
 
-// The lowest bit that is set; the number of bits where none is.
+// The lowest bit that is set; the number of bits where none is. The cast widens: there is no `From<u32>` for `usize`.
+#[tactic(auto, using(crate::specs::WordsLaws::trailing_least), unfolding(crate::specs::Words::word_size))]
 pub fn lowest_bit(word: u32) -> usize
     ensures { result ≡ least word_size (has_bit word) }
 {
-    u32::trailing_zeros(word) as usize
+    word.trailing_zeros() as usize
 }
 
 // Marks a bit of a word in a record of use, and tells whether it was marked before.

@@ -1,14 +1,17 @@
 -- Laws of the text: a number's digits one by one and how many there are, and a line as the numbers before its last word.
 --   decimal_one, decimal_more == a number of one digit, and the last digit of another
+--   decimal_printed        == what the library prints of any number in the code is its `decimal`
 --   number_length          == how many digits any number in the code has at most
 --   spaced_more, spaced_room == one number more with a space behind it, and that there is room for it among all of them
---   table_text_is, planned_text_is, too_long_is, refused_is == the texts as they are written
+--   first_line_is, table_text_is, planned_text_is, too_long_is, refused_is == the texts as they are written
 --   sizes_length           == the room that the sizes and K take
 --   listing_room, first_line_room == the longest listing has room for a first line, and behind it for the lines of all rows
 --   RowWidths i call light == how many digits the numbers of a row's line have at most, and row_widths that they do
 --   numbers ..             == the numbers of a row's line before the last, and row_line_told that they are that line
+use Rattle.std.specs.Fmt as Fmt
 use Rattle.std.specs.Prelude.{◌≡◌, refl, Bool, true, false, List, [], ◌∷◌, ◌++◌, ℕ, zero, suc, ◌+◌, ◌*◌, ◌/◌, ◌%◌, ◌^◌, ◌≤◌, ◌<◌, ltb, length, take, get_or}
 use Rattle.std.proofs.Common.{sym, ap, ◌∙◌, append_assoc, arith, length-append, lt-ltb, le-ltb, ltb-true, ltb-false}
+use Rattle.std.proofs.lemmas.Fmt.{AppendsLastDigit, decimal_from_appends, length-decimal-le}
 use Rattle.shelf.specs.declared.Network.{Network}
 use Rattle.shelf.specs.declared.CallRow.{CallRow}
 use Rattle.shelf.specs.declared.SettingsRow.{SettingsRow}
@@ -52,6 +55,12 @@ decimal_length (suc k) n h = go (decimal_length k (n / 10) (omega arith)) (ltb n
     go rest true e = rw (decimal_one n (ltb-true n 10 e)) (omega arith)
     go rest false e = rw (decimal_more n (ltb-false n 10 e)) (simp length-append (omega arith))
 
+-- what the library prints
+pub decimal_printed : (n : ℕ) → n < 2 ^ 64 → Fmt.decimal n ≡ decimal n
+decimal_printed n h =
+    let appends : AppendsLastDigit (λ _ m. decimal m) = record { one = λ _. decimal_one; more = λ _. decimal_more } in
+    sym (decimal_from_appends (λ _ m. decimal m) appends 20 n h (length-decimal-le 20 n (omega arith) (omega arith) h))
+
 -- of a byte, of a row's number, and of any number in the code
 byte_length : (n : ℕ) → n < 256 → length (decimal n) ≤ byte_digits
 unfolding byte_digits tens
@@ -82,7 +91,7 @@ spaced_room (number ∷ numbers) zero h = simp length-append (omega arith)
 spaced_room (number ∷ numbers) (suc i) h = simp length-append (omega (arith, spaced_room numbers i (omega arith)))
 
 -- the words of a first line, of a row's line, of a refusal and of a file that is too long, as they are written
-first_line_is : (net : Network) (K : ℕ) (moved : List ℕ)
+pub first_line_is : (net : Network) (K : ℕ) (moved : List ℕ)
     → first_line net K moved ≡ spaced (net.n ∷ net.m ∷ net.r ∷ K ∷ []) ++ moved ++ newline ∷ []
 unfolding first_line line spaced
 first_line_is net K moved = simp append_assoc

@@ -4,13 +4,17 @@
 --   most_sizes, most_first_line, most_row_line == so many bytes are enough for the sizes and K, for a first line or a refusal, and for
 --                      the line of a row
 --   longest_listing  == so many bytes are enough for every listing
+--   HasRoom text size == the text's buffer has room for so many bytes more
+--   Writes before after bytes == these bytes were written behind the text so far, in the same buffer
+--   moved_word moved == the word for the moved count: the count in decimal, or a dash where there is none
 --   HasRow calls settings row, HasRows calls settings == the row, and all rows, stand in calls and settings
 --   Lists file before after size == what the entry guarantees
-use Rattle.std.specs.Prelude.{◌≡◌, List, [], ◌∷◌, ◌++◌, ℕ, ◌+◌, ◌*◌, ◌≤◌, ◌<◌, length}
-use Rattle.ground.specs.Bytes.{front}
+use Rattle.std.specs.Prelude.{◌≡◌, Option, Some, None, List, [], ◌∷◌, ◌++◌, ℕ, ◌+◌, ◌*◌, ◌≤◌, ◌<◌, length}
+use Rattle.ground.specs.Bytes.{front, Adds}
 use Rattle.shelf.specs.Network.{most_calls}
 use Rattle.shelf.specs.Rows.{row_count}
-use Rattle.lines.specs.Text.{space, decimal, listing}
+use Rattle.lines.specs.declared.text.Text.{Text}
+use Rattle.lines.specs.Text.{space, dash, decimal, listing}
 
 unfoldable pub spaced : List ℕ → List ℕ
 spaced [] = []
@@ -39,6 +43,18 @@ most_row_line = (row_digits + 1) + 7 * (byte_digits + 1)
 
 unfoldable pub longest_listing : ℕ
 longest_listing = most_first_line + most_row_line * most_calls
+
+abbrev pub HasRoom : Text → ℕ → Type 0
+HasRoom text size = text.end + size ≤ length text.out.now
+
+pub record Writes (before after : Text) (bytes : List ℕ) : Type 0 where
+  pub same_buffer : after.out.ghost_name ≡ before.out.ghost_name
+  pub same_length : length after.out.now ≡ length before.out.now
+  pub adds : Adds before.out.now after.out.now before.end after.end bytes
+
+abbrev pub moved_word : Option ℕ → List ℕ
+moved_word (Some moved) = decimal moved
+moved_word None = dash ∷ []
 
 pub record HasRow (calls settings : List ℕ) (row : ℕ) : Type 0 where
   pub below : row < most_calls

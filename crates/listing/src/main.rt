@@ -17,16 +17,16 @@ fn main(rt: HostRuntime) -> io::Result<()> {
 }
 
 // Reads until the buffer is full, the input ends or a read fails, and tells how many bytes stand at its front.
+// A loop by hand: `read_to_end` needs a heap, and the other methods tell no count, or try again where a read is interrupted.
 fn fill<R: Read>(input: &mut R, buffer: &mut [u8]) -> usize
     ensures { result ≤ length buffer.new }
 {
     let mut size = 0;
     while size < buffer.len() {
-        let count = input.read(&mut buffer[size..]).unwrap_or(0);
-        if count == 0 {
-            return size;
+        match input.read(&mut buffer[size..]) {
+            Ok(0) | Err(_) => break,
+            Ok(count) => size += count,
         }
-        size += count;
     }
     size
 }

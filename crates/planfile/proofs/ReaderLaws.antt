@@ -9,7 +9,7 @@
 --   same_read            == readers of different kinds tell the same of a file whose kind both take
 --   not_read, first_issue == a reader meets a kind that it does not take with 14 and shows nothing; so does a reader of the first issue
 --                           with kinds 3 and 4
-use Rattle.std.specs.Prelude.{◌≡◌, ◌↔◌, Bool, ℕ, ◌+◌, ◌-◌, ◌≤◌, T, take}
+use Rattle.std.specs.Prelude.{◌≡◌, ◌↔◌, Bool, ℕ, ◌+◌, ◌-◌, ◌≤◌, T, take, Result, Ok, Err}
 use Rattle.std.proofs.Math.Path.{refl, sym, ap}
 use Rattle.std.proofs.Common.{◌∙◌, le_refl, add-zero}
 use Rattle.std.proofs.Math.Logic.Iff
@@ -31,11 +31,10 @@ use Rattle.calls.specs.VerdictLaws.{turn_stops, turn_goes_on, turn_last, answer_
 use Rattle.calls.specs.Table.{InOrder}
 use Rattle.trailer.specs.declared.Kinds.{Kinds}
 use Rattle.trailer.specs.declared.Told.{Told}
-use Rattle.trailer.specs.declared.Trailer.{Trailer}
-use Rattle.trailer.specs.declared.Trailer.TheVariants.{Whole, Refused}
 use Rattle.trailer.specs.File.{has_settings, has_cycle, takes, old_kinds, short_trailer, long_trailer, trailer_length, settings_distance, calls_distance, cycle_bytes, last_twelve, trailer_of, file_of, longest_of}
 use Rattle.trailer.proofs.FileLaws.{no_distance, short_length, long_length, trailer_most, rows_part}
 use Rattle.trailer.proofs.KindLaws.{cycle_not_old}
+use Rattle.trailer.specs.declared.Layout.{Layout}
 use Rattle.trailer.specs.Trailer.{twelve_in, told_kind, told_count, told_settings_back, told_calls_back, told_mark, kind_in, trailer_place, cycle_in, spare_in, told_net, has_trailer, no_trailer, trailer_verdict, layout_of, whole_told, refused_told, told_by, answer_of, trailer_answer, LaidOut}
 use Rattle.trailer.proofs.TrailerLaws.{settings_held, ended_is, Stated, trailer_passes, not_taken, whole_answer, refused_answer, refused_case}
 use Rattle.planfile.proofs.ChecksLaws.{Measured, table_lawful, longest_file_lem}
@@ -148,20 +147,20 @@ module _ (kinds : Kinds) (file : List ℕ) where
       elim (ℕ_discrete (reader_verdict kinds file).number 0) [ yes e ↦ e | no n ↦ absurd (n (sym (ap (λ (told : Told). told.number) (read_refused n)) ∙ z)) ]
 
   -- the same, for the answers of the reader's two steps
-  pub trailer_refuses : {answer : Trailer} (v : Verdict) → answer ≡ trailer_answer kinds file → answer ≡ Refused v → answer ≡ file_answer kinds file
+  pub trailer_refuses : {answer : Result Layout Verdict} (v : Verdict) → answer ≡ trailer_answer kinds file → answer ≡ Err v → answer ≡ file_answer kinds file
   unfolding trailer_answer reader_verdict reader_checks file_answer
   trailer_refuses v a e =
       let n = (refused_case _ _ v (sym e ∙ a)).0 in
       a ∙ ap (λ (w : Verdict). answer_of w (layout_of file)) (answer_refused _ _ (turn_stops _ refl n) n)
 
   module _ (z : (trailer_verdict kinds file).number ≡ 0) (v : Verdict) (e : v ≡ layout_checks file (layout_of file)) where
-    pub rows_refuse : (v.number ≡ 0 → ⊥) → Refused v ≡ file_answer kinds file
+    pub rows_refuse : (v.number ≡ 0 → ⊥) → Err v ≡ file_answer kinds file
     unfolding reader_verdict reader_checks file_answer
     rows_refuse n =
         let s : v ≡ reader_verdict kinds file = answer_refused _ _ (turn_goes_on _ _ refl z (turn_last e)) n in
-        ap (λ (w : Verdict). Refused w) s ∙ sym (refused_answer _ _ (rw (← s) n))
+        ap (λ (w : Verdict). Err w) s ∙ sym (refused_answer _ _ (rw (← s) n))
 
-    pub rows_pass : v.number ≡ 0 → Whole (layout_of file) ≡ file_answer kinds file
+    pub rows_pass : v.number ≡ 0 → Ok (layout_of file) ≡ file_answer kinds file
     unfolding file_answer
     rows_pass y = sym (whole_answer _ _ (reader_passes.1 ((trailer_passes kinds file).0 z, rw e at y)))
 

@@ -5,7 +5,7 @@
 --   reader_verdict kinds file == the number and row of a reader of these kinds, file_answer kinds file the case of its answer, and
 --                            read_answer kinds file all that it tells
 --   WholeFile, Reads      == what the reader guarantees
-use Rattle.std.specs.Prelude.{◌≡◌, false, List, [], ◌∷◌, ℕ, ◌≤◌, T, length}
+use Rattle.std.specs.Prelude.{◌≡◌, false, List, [], ◌∷◌, ℕ, ◌≤◌, T, length, Result}
 use Rattle.ground.specs.Bytes.{part}
 use Rattle.shelf.specs.declared.Network.{Network}
 use Rattle.shelf.specs.Network.{has_least_cycle}
@@ -15,10 +15,9 @@ use Rattle.calls.specs.declared.Verdict.{Verdict}
 use Rattle.calls.specs.Verdict.{answer}
 use Rattle.calls.specs.Table.{InOrder}
 use Rattle.trailer.specs.declared.Kinds.{Kinds}
-use Rattle.trailer.specs.declared.Layout.{Layout}
 use Rattle.trailer.specs.declared.Told.{Told}
-use Rattle.trailer.specs.declared.Trailer.{Trailer}
 use Rattle.trailer.specs.File.{has_settings, has_cycle, takes, most_note, settings_distance, file_of}
+use Rattle.trailer.specs.declared.Layout.{Layout}
 use Rattle.trailer.specs.Trailer.{trailer_place, trailer_verdict, layout_of, refused_told, told_by, answer_of}
 use Rattle.planfile.specs.Checks.{table_checks}
 
@@ -47,7 +46,7 @@ reader_checks kinds file = trailer_verdict kinds file ∷ layout_checks file (la
 unfoldable pub reader_verdict : Kinds → List ℕ → Verdict
 reader_verdict kinds file = answer (reader_checks kinds file) (layout_of file).count
 
-unfoldable pub file_answer : Kinds → List ℕ → Trailer
+unfoldable pub file_answer : Kinds → List ℕ → Result Layout Verdict
 file_answer kinds file = answer_of (reader_verdict kinds file) (layout_of file)
 
 unfoldable pub read_answer : Kinds → List ℕ → Told

@@ -1,3 +1,4 @@
+pub mod AnswerLaws
 pub mod PlannerLaws
 pub mod Continuing
 pub mod Overfull

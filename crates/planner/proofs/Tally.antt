@@ -1,10 +1,12 @@
 -- Counting the calls of each module as rows pass.
 --   Tally calls t k             == t holds, for each module of each side, its calls among the rows below k
 --   number_below, no_calls, outputs_kept, inputs_now, outputs_now, tally_next == a module has a count, none is counted at first, and a row is counted at both its modules
---   counts_small, overfull_input, overfull_output, not_overfull == counts are small, and what two counts of a row tell
-use Rattle.std.specs.Prelude.{◌≡◌, Bool, true, false, not, List, ℕ, suc, ◌+◌, ◌≤◌, ◌<◌, T, length, get_or, replicate}
-use Rattle.std.proofs.Common.{sym, ap, ◌∙◌, add-one, arith, length-set, get_or-set_same, get_or-set_other}
+--   counts_small, overfull_input, overfull_output, overfull_larger, not_overfull == counts are small, and what two counts of a row tell, and
+--                                  the larger of them
+use Rattle.std.specs.Prelude.{◌≡◌, Bool, true, false, not, List, ℕ, suc, ◌+◌, ◌≤◌, ◌<◌, T, length, get_or, replicate, max}
+use Rattle.std.proofs.Common.{sym, ap, ◌∙◌, ⊎_elim, add-one, arith, length-set, get_or-set_same, get_or-set_other}
 use Rattle.std.proofs.Math.Decide.{ℕ_discrete}
+use Rattle.std.proofs.lemmas.Bool.{cases_lt}
 use Rattle.std.proofs.lemmas.List.{length-replicate, get_or-replicate}
 use borrow.Author.Tests.{ne_eqb, lt-ltb, le-ltb}
 use Rattle.ground.specs.Truth.{any}
@@ -126,6 +128,9 @@ module _ (net : Network) (calls : List ℕ) (k n c d : ℕ) (e : n ≡ length (o
   pub overfull_output : c ≤ n → n < d → overfull net calls k ≡ true
   unfolding overfull any
   overfull_output m l = rw (← e, ← a, ← b, le-ltb _ _ m, lt-ltb _ _ l)
+
+  pub overfull_larger : n < max c d → overfull net calls k ≡ true
+  overfull_larger l = ⊎_elim overfull_input (λ m. overfull_output m (omega (arith, l, m))) (cases_lt n c)
 
   pub not_overfull : c ≤ n → d ≤ n → overfull net calls k ≡ false
   unfolding overfull any

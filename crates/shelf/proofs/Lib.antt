@@ -1,3 +1,4 @@
 pub mod Arrival
+pub mod Chunks
 pub mod Collisions
 pub mod LawfulLaws

@@ -14,12 +14,9 @@
 --   sized net          == what a constructor answers that is asked for this network
 --   Constructed        == number, row and network of an answer, and told_by those of each case of a constructor's
 --   Built net answer   == what the constructors guarantee
-use Rattle.std.specs.Prelude.{◌≡◌, Bool, cond, ◌&&◌, [], ◌∷◌, ℕ, max, eqb, leb, ltb}
-use Rattle.std.proofs.Math.Option.{Option, none, some}
+use Rattle.std.specs.Prelude.{◌≡◌, Bool, cond, ◌&&◌, [], ◌∷◌, ℕ, max, eqb, leb, ltb, Option, Some, None}
 use Rattle.ground.specs.Truth.{all}
 use Rattle.shelf.specs.declared.Network.{Network}
-use Rattle.shelf.specs.declared.Sized.{Sized}
-use Rattle.shelf.specs.declared.Sized.TheVariants.{Made, Refused}
 
 -- "n: channels of each input and each output module, 1 to 16. m: central modules, 1 to 32; m may be smaller than n.
 -- r: input modules, and as many output modules, 1 to 64." "A table holds K rows, 0 to 1,024". 1 is given "when W is .. above 64".
@@ -80,9 +77,9 @@ has_central net γ = ltb γ net.m
 unfoldable pub own_central : Network → ℕ → Bool
 own_central net γ = has_central net γ
 
--- The constructors' answer: the network itself, or 1.
-unfoldable pub sized : Network → Sized
-sized net = cond (within_limits net) (Made net) Refused
+-- The constructors' answer: the network itself, or none, which is 1.
+unfoldable pub sized : Network → Option Network
+sized net = cond (within_limits net) (Some net) None
 
 -- "An answer is a number, a row". A network that is made is success, 0, and the row is 0, since there is no table; the other case is
 -- refusal 1 with row 0, and holds no network.
@@ -91,11 +88,11 @@ pub record Constructed : Type 0 where
   pub row : ℕ
   pub network : Option Network
 
-abbrev pub told_by : Sized → Constructed
-told_by (Made net) = record { number = 0; row = 0; network = some net }
-told_by Refused = record { number = 1; row = 0; network = none }
+abbrev pub told_by : Option Network → Constructed
+told_by (Some net) = record { number = 0; row = 0; network = Some net }
+told_by None = record { number = 1; row = 0; network = None }
 
-pub record Built (net : Network) (answer : Sized) : Type 0 where
+pub record Built (net : Network) (answer : Option Network) : Type 0 where
   pub is_sized : answer ≡ sized net
   -- number, row and network, by the case of the answer
-  pub tells : told_by answer ≡ cond (within_limits net) (record { number = 0; row = 0; network = some net }) (record { number = 1; row = 0; network = none })
+  pub tells : told_by answer ≡ cond (within_limits net) (record { number = 0; row = 0; network = Some net }) (record { number = 1; row = 0; network = None })

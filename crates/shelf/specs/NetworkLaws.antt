@@ -12,7 +12,7 @@
 --   one_answer         == two answers of a constructor are the same, and tell the same number, row and network
 use Rattle.std.proofs.Math.Path.{◌≡◌, refl}
 use Rattle.std.proofs.Common.{sym, ◌∙◌, arith}
-use Rattle.std.specs.Prelude.{◌↔◌, Bool, [], ◌∷◌, ℕ, ◌≤◌, ◌<◌, T, leb}
+use Rattle.std.specs.Prelude.{◌↔◌, Bool, [], ◌∷◌, ℕ, ◌≤◌, ◌<◌, T, leb, Option, Some, None}
 use Rattle.std.proofs.Math.Logic.Iff
 use Rattle.std.proofs.Math.Bool.{true, false, cond}
 use Rattle.std.proofs.Math.Dec.{eqb_refl}
@@ -21,8 +21,6 @@ use Rattle.ground.specs.TruthLaws.{both_is, all_is}
 use Rattle.ground.specs.Numbers.{eqb_is, leb_is, ltb_is}
 use Rattle.ground.specs.Words.{word_size}
 use Rattle.shelf.specs.declared.Network.{Network}
-use Rattle.shelf.specs.declared.Sized.{Sized}
-use Rattle.shelf.specs.declared.Sized.TheVariants.{Made, Refused}
 use Rattle.shelf.specs.Network.{most_channels, most_centrals, most_modules, most_wavelengths, within, cycle, cycle_within, within_limits, least_cycle, of_sizes, has_least_cycle, own_wavelength, has_central, own_central, sized, told_by, Built}
 
 pub record InLimits (net : Network) : Type 0 where
@@ -97,19 +95,19 @@ module _ (net : Network) where
   pub own_central_below : (γ : ℕ) → T (own_central net γ) → γ < net.m
   own_central_below γ h = (has_central_is γ).0 ((own_central_is γ).0 h)
 
-  pub made_sized : (made : Network) → Made made ≡ sized net → (within_limits net ≡ true) × (made ≡ net)
+  pub made_sized : (made : Network) → Some made ≡ sized net → (within_limits net ≡ true) × (made ≡ net)
   unfolding sized
   made_sized made = go (within_limits net)
     where
-      go : (b : Bool) → Made made ≡ cond b (Made net) Refused → (b ≡ true) × (made ≡ net)
+      go : (b : Bool) → Some made ≡ cond b (Some net) None → (b ≡ true) × (made ≡ net)
       go true e = (refl, cc)
       go false e = let z : ◌≡◌ {A = ℕ} 0 1 = cc in absurd (omega arith)
 
-  pub refused_sized : Refused ≡ sized net → within_limits net ≡ false
+  pub refused_sized : None ≡ sized net → within_limits net ≡ false
   unfolding sized
   refused_sized = go (within_limits net)
     where
-      go : (b : Bool) → Refused ≡ cond b (Made net) Refused → b ≡ false
+      go : (b : Bool) → None ≡ cond b (Some net) None → b ≡ false
       go true e = let z : ◌≡◌ {A = ℕ} 0 1 = cc in absurd (omega arith)
       go false e = refl
 
@@ -143,5 +141,5 @@ unfolding most_centrals word_size
 central_bit l = omega arith
 
 -- two answers that satisfy a constructor's guarantee are the same
-pub one_answer : (net : Network) (s s' : Sized) → Built net s → Built net s' → (s ≡ s') × (told_by s ≡ told_by s')
+pub one_answer : (net : Network) (s s' : Option Network) → Built net s → Built net s' → (s ≡ s') × (told_by s ≡ told_by s')
 one_answer net s s' g h = (g.is_sized ∙ sym h.is_sized, g.tells ∙ sym h.tells)

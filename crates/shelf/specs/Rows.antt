@@ -3,12 +3,15 @@
 --   α, ω, β, ω'      == input module, its channel, output module, its channel of call row i
 --   call_at calls i   == call row i as the code's record has it
 --   module_of, channel_of calls output == β and ω' where `output`, else α and ω: so that what is said of one side is said of both
+--   is_output side    == a side as these take it
 --   ModulesBelow α β r k == the modules of the rows below k are numbers below r
 --   x, γ, y          == wavelength after the input module, central module, wavelength after it of settings row i
 --   CallRead, SettingsRead == what the code's row records hold: these numbers, and each is a byte
 use Rattle.std.specs.Prelude.{◌≡◌, Bool, true, false, List, ℕ, ◌+◌, ◌*◌, ◌/◌, ◌<◌, length, get_or}
 use Rattle.shelf.specs.declared.CallRow.{CallRow}
 use Rattle.shelf.specs.declared.SettingsRow.{SettingsRow}
+use Rattle.shelf.specs.declared.Side.{Side}
+use Rattle.shelf.specs.declared.Side.TheVariants.{Input, Output}
 
 -- "A call row is 4 bytes: α (input module), ω (its channel), β (output module), ω' (its channel)."
 unfoldable pub row_count : List ℕ → ℕ
@@ -37,6 +40,10 @@ module_of calls false = α calls
 abbrev pub channel_of : List ℕ → Bool → ℕ → ℕ
 channel_of calls true = ω' calls
 channel_of calls false = ω calls
+
+abbrev pub is_output : Side → Bool
+is_output Input = false
+is_output Output = true
 
 abbrev pub ModulesBelow : (α β : ℕ → ℕ) (r k : ℕ) → Type 0
 ModulesBelow α β r k = (i : ℕ) → i < k → (α i < r) × (β i < r)

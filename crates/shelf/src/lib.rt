@@ -19,13 +19,6 @@ pub struct Network {
     pub w: usize,
 }
 
-// What a constructor answers: a network within its limits, or refusal 1.
-#[derive(Clone, Copy)]
-pub enum Sized {
-    Made(Network),
-    Refused,
-}
-
 impl Network {
     pub const MOST_CHANNELS: usize = 16;
 
@@ -37,77 +30,66 @@ impl Network {
 
     pub const MOST_WAVELENGTHS: usize = 64;
 
-    // The network of these sizes whose cycle is the larger of r and m, refused where one of them is outside its limits.
-    pub fn new(n: usize, m: usize, r: usize) -> Sized
+    // The network of these sizes whose cycle is the larger of r and m; none, which is refusal 1, where one of them is outside its limits.
+    #[tactic(auto, unfolding(crate::specs::Network::most_channels, crate::specs::Network::most_centrals, crate::specs::Network::most_modules, crate::specs::Network::most_calls))]
+    pub fn new(n: usize, m: usize, r: usize) -> Option<Network>
         ensures answer { Built (of_sizes n m r) result }
         ensures limits { Limits Network.MOST_CHANNELS Network.MOST_CENTRALS Network.MOST_MODULES Network.MOST_CALLS }
     {
-        let net = Network::of_sizes(n, m, r);
-        net.tested()
+        Network::of_sizes(n, m, r).tested()
     }
 
-    // The network of these sizes and this cycle, refused where one of them is outside its limits.
-    pub fn with_cycle(n: usize, m: usize, r: usize, w: usize) -> Sized
+    // The network of these sizes and this cycle; none where one of them is outside its limits.
+    #[tactic(auto, unfolding(crate::specs::Network::most_wavelengths))]
+    pub fn with_cycle(n: usize, m: usize, r: usize, w: usize) -> Option<Network>
         ensures answer { Built (record { n = n; m = m; r = r; w = w }) result }
         ensures limit { Network.MOST_WAVELENGTHS ≡ most_wavelengths }
     {
-        let net = Network { n, m, r, w };
-        net.tested()
+        Network { n, m, r, w }.tested()
     }
 
     // The record of these sizes whose cycle is the larger of r and m: that of a table with no cycle told. It is not tested.
+    #[tactic(auto, unfolding(crate::specs::Network::of_sizes))]
     pub fn of_sizes(n: usize, m: usize, r: usize) -> Network
         ensures { result ≡ of_sizes n m r }
     {
-        let w = least_cycle(m, r);
-        Network { n, m, r, w }
+        Network {
+            n,
+            m,
+            r,
+            w: least_cycle(m, r),
+        }
     }
 
-    // The constructors' answer: this network, or refusal 1.
-    fn tested(self) -> Sized
+    // The constructors' answer: this network, or none.
+    #[tactic(auto, unfolding(crate::specs::Network::sized))]
+    fn tested(self) -> Option<Network>
         ensures { Built self result }
     {
-        if self.within_limits() {
-            Sized::Made(self)
-        } else {
-            Sized::Refused
-        }
+        Some(self).filter(|net| net.within_limits())
     }
 
     // Whether n, m, r and the cycle are within their limits.
+    #[tactic(auto, unfolding(ground::specs::Truth::all, crate::specs::Network::within_limits, crate::specs::Network::most_channels, crate::specs::Network::most_centrals, crate::specs::Network::most_modules))]
     pub fn within_limits(self) -> bool
         ensures { result ≡ within_limits self }
     {
-        let n = self.n;
-        let m = self.m;
-        let r = self.r;
-        if !in_range(n, Network::MOST_CHANNELS) {
-            return false;
-        }
-        if !in_range(m, Network::MOST_CENTRALS) {
-            return false;
-        }
-        if !in_range(r, Network::MOST_MODULES) {
-            return false;
-        }
-        self.cycle_within()
+        in_range(self.n, Network::MOST_CHANNELS)
+            && in_range(self.m, Network::MOST_CENTRALS)
+            && in_range(self.r, Network::MOST_MODULES)
+            && self.cycle_within()
     }
 
     // Whether the cycle has a port for each module and each central, and is at most its limit.
+    #[tactic(auto, unfolding(ground::specs::Truth::all, crate::specs::Network::cycle, crate::specs::Network::cycle_within, crate::specs::Network::most_wavelengths))]
     fn cycle_within(self) -> bool
         ensures { result ≡ cycle_within self }
     {
-        let w = self.w;
-        if w < self.r {
-            return false;
-        }
-        if w < self.m {
-            return false;
-        }
-        w <= Network::MOST_WAVELENGTHS
+        self.r <= self.w && self.m <= self.w && self.w <= Network::MOST_WAVELENGTHS
     }
 
     // The cycle of both gratings: how many wavelengths there are inside the shelf.
+    #[tactic(auto, unfolding(crate::specs::Network::cycle))]
     pub fn cycle(self) -> usize
         ensures { result ≡ cycle self }
     {
@@ -115,14 +97,15 @@ impl Network {
     }
 
     // Whether the cycle is the larger of r and m.
+    #[tactic(auto, unfolding(crate::specs::Network::cycle, crate::specs::Network::has_least_cycle))]
     pub fn has_least_cycle(self) -> bool
         ensures { result ≡ has_least_cycle self }
     {
-        let w = self.w;
-        w == least_cycle(self.m, self.r)
+        least_cycle(self.m, self.r) == self.w
     }
 
     // How many centrals the shelf has to choose from.
+    #[tactic(auto, using(crate::specs::OrderLaws::order_length))]
     pub fn centrals(self) -> usize
         ensures { result ≡ length (order self) }
     {
@@ -131,17 +114,26 @@ impl Network {
 }
 
 // Whether `size` is at least 1 and at most `most`.
+#[tactic(auto, unfolding(crate::specs::Network::within))]
 fn in_range(size: usize, most: usize) -> bool
     ensures { result ≡ within size most }
 {
-    1 <= size && size <= most
+    (1..=most).contains(&size)
 }
 
 // The larger of r and m: the least cycle that has a port for each module and each central.
+#[tactic(auto, unfolding(crate::specs::Network::least_cycle))]
 fn least_cycle(m: usize, r: usize) -> usize
     ensures { result ≡ least_cycle m r }
 {
-    if r < m { m } else { r }
+    r.max(m)
+}
+
+// A side of the shelf: that of the input modules, or that of the output modules.
+#[derive(Clone, Copy, Debug, PartialEq, Eq)]
+pub enum Side {
+    Input,
+    Output,
 }
 
 // A call row: the inlet and the outlet of one call.
@@ -159,12 +151,15 @@ impl CallRow {
         requires { 4 * row + 4 ≤ length calls.now }
         ensures { CallRead calls.now row result }
     {
-        let start = 4 * row;
+        let (rows, _) = calls.as_chunks::<4>();
+        let [input_module, input_channel, output_module, output_channel] = rows[row].map(
+            usize::from,
+        );
         CallRow {
-            input_module: ground::byte_at(calls, start),
-            input_channel: ground::byte_at(calls, start + 1),
-            output_module: ground::byte_at(calls, start + 2),
-            output_channel: ground::byte_at(calls, start + 3),
+            input_module,
+            input_channel,
+            output_module,
+            output_channel,
         }
     }
 }
@@ -183,11 +178,12 @@ impl SettingsRow {
         requires { 3 * row + 3 ≤ length settings.now }
         ensures { SettingsRead settings.now row result }
     {
-        let start = 3 * row;
+        let (rows, _) = settings.as_chunks::<3>();
+        let [to_central, central, from_central] = rows[row].map(usize::from);
         SettingsRow {
-            to_central: ground::byte_at(settings, start),
-            central: ground::byte_at(settings, start + 1),
-            from_central: ground::byte_at(settings, start + 2),
+            to_central,
+            central,
+            from_central,
         }
     }
 }

@@ -4,10 +4,11 @@
 --   Ended kinds file     == the file ends in a trailer of one of these kinds: what the test of 14 says, by ended_is; not_ended, short_ended, long_ended for code that tests one thing after the other
 --   Stated kinds file    == what a trailer says that is not refused, and trailer_passes that 14, 1, 3 and 15 refuse no other
 --   whole_answer, refused_answer == the case of an answer, by the number; whole_case, refused_case, the number by the case
+--   lacking              == for code that passes on a refusal where a value is lacking
 --   whole_apart, refused_apart == the guarantee, of a layout and of a refusal
 --   one_answer           == two answers that satisfy it are the same
 --   not_taken            == a file of a kind that is not taken is refused 14, whatever its other bytes are
-use Rattle.std.specs.Prelude.{◌≡◌, refl, ◌↔◌, Bool, true, false, not, List, [], ◌∷◌, ℕ, suc, ◌-◌, ◌≤◌, T, eqb, length}
+use Rattle.std.specs.Prelude.{◌≡◌, refl, ◌↔◌, Bool, true, false, not, List, [], ◌∷◌, ℕ, suc, ◌-◌, ◌≤◌, T, eqb, length, Option, Some, None, Result, Ok, Err, ok_or}
 use Rattle.std.proofs.Math.Path.{sym, ap}
 use Rattle.std.proofs.Common.{◌∙◌, arith, eq-eqb, ne_eqb}
 use Rattle.std.proofs.Math.Logic.Iff
@@ -18,13 +19,12 @@ use Rattle.ground.specs.Numbers.{eqb_is, leb_is}
 use Rattle.shelf.specs.declared.Network.{Network}
 use Rattle.shelf.specs.Network.{within_limits, most_calls}
 use Rattle.calls.specs.declared.Verdict.{Verdict}
+use Rattle.calls.specs.declared.refusal.Refusal.{Refusal}
 use Rattle.calls.specs.Verdict.{passed}
 use Rattle.calls.specs.VerdictLaws.{turn_passes, test_stops, refused_zero}
 use Rattle.calls.specs.TableLaws.{sizes_pass, count_passes}
 use Rattle.trailer.specs.declared.Kinds.{Kinds}
 use Rattle.trailer.specs.declared.Layout.{Layout}
-use Rattle.trailer.specs.declared.Trailer.{Trailer}
-use Rattle.trailer.specs.declared.Trailer.TheVariants.{Whole, Refused}
 use Rattle.trailer.specs.File.{has_cycle, takes, short_trailer, long_trailer, trailer_length, most_note, mark, settings_distance, calls_distance}
 use Rattle.trailer.proofs.FileLaws.{short_length, long_length, trailer_most}
 use Rattle.trailer.specs.Trailer.{twelve_in, told_count, told_settings_back, told_calls_back, told_mark, kind_in, trailer_place, spare_in, told_net, has_trailer, no_trailer, distances_stated, distances_told, bad_distances, trailer_verdict, layout_of, whole_told, refused_told, answer_of, trailer_answer, TakenApart}
@@ -142,34 +142,38 @@ module _ (kinds : Kinds) (file : List ℕ) where
 -- ---- the answer
 
 module _ (v : Verdict) (layout : Layout) where
-  pub whole_answer : v.number ≡ 0 → answer_of v layout ≡ Whole layout
+  pub whole_answer : v.number ≡ 0 → answer_of v layout ≡ Ok layout
   unfolding answer_of
   whole_answer z = rw (eq-eqb v.number 0 z)
 
-  pub refused_answer : (v.number ≡ 0 → ⊥) → answer_of v layout ≡ Refused v
+  pub refused_answer : (v.number ≡ 0 → ⊥) → answer_of v layout ≡ Err v
   unfolding answer_of
   refused_answer n = rw (ne_eqb v.number 0 n)
 
-  pub refused_case : (w : Verdict) → Refused w ≡ answer_of v layout → (v.number ≡ 0 → ⊥) × (w ≡ v)
+  pub refused_case : (w : Verdict) → Err w ≡ answer_of v layout → (v.number ≡ 0 → ⊥) × (w ≡ v)
   refused_case w e = elim (ℕ_discrete v.number 0) [
     | yes z ↦ let y : ◌≡◌ {A = ℕ} 0 1 = cc (whole_answer z) in absurd (omega arith)
     | no n ↦ (n, cc (refused_answer n))
   ]
 
-  pub whole_case : (told : Layout) → Whole told ≡ answer_of v layout → (v.number ≡ 0) × (told ≡ layout)
+  pub whole_case : (told : Layout) → Ok told ≡ answer_of v layout → (v.number ≡ 0) × (told ≡ layout)
   whole_case told e = elim (ℕ_discrete v.number 0) [
     | yes z ↦ (z, cc (whole_answer z))
     | no n ↦ let y : ◌≡◌ {A = ℕ} 0 1 = cc (refused_answer n) in absurd (omega arith)
   ]
 
+pub lacking : {A : Type 0} (o : Option A) (d e : Refusal) → ◌≡◌ {A = Result A Refusal} (Err d) (ok_or o e) → (o ≡ None) × (d ≡ e)
+lacking None d e h = (refl, grind arith)
+lacking (Some x) d e h = absurd (grind arith)
+
 module _ (kinds : Kinds) (file : List ℕ) where
-  pub refused_apart : (number : ℕ) → record { number = suc number; row = 0 } ≡ trailer_verdict kinds file → TakenApart kinds file (Refused (record { number = suc number; row = 0 }))
+  pub refused_apart : (number : ℕ) → record { number = suc number; row = 0 } ≡ trailer_verdict kinds file → TakenApart kinds file (Err (record { number = suc number; row = 0 }))
   unfolding trailer_answer refused_told
   refused_apart number e = record { is_answer = rw (← e) (sym (refused_answer _ _ (λ z. omega arith))); number = ap (λ (v : Verdict). v.number) e }
 
   pub whole_apart : (net : Network) (kind K settingsBack callsBack start : ℕ) → passed ≡ trailer_verdict kinds file → net ≡ told_net file → kind ≡ kind_in file
       → K ≡ told_count (twelve_in file) → settingsBack ≡ told_settings_back (twelve_in file) → callsBack ≡ told_calls_back (twelve_in file) → start ≡ trailer_place file
-      → TakenApart kinds file (Whole (record {
+      → TakenApart kinds file (Ok (record {
         net = net;
         kind = kind;
         count = K;
@@ -181,7 +185,7 @@ module _ (kinds : Kinds) (file : List ℕ) where
   whole_apart net kind K settingsBack callsBack start e a b d f g h =
       rw (a, b, d, f, g, h) (record { is_answer = rw (← e) (sym (whole_answer _ _ refl)); number = ap (λ (v : Verdict). v.number) e })
 
-  pub one_answer : (answer other : Trailer) → TakenApart kinds file answer → TakenApart kinds file other → answer ≡ other
+  pub one_answer : (answer other : Result Layout Verdict) → TakenApart kinds file answer → TakenApart kinds file other → answer ≡ other
   one_answer answer other g h = g.is_answer ∙ sym h.is_answer
 
   -- 14 for a kind that is not taken, in every file, however short or damaged

@@ -1,5 +1,7 @@
 -- The kinds of plan file, and the file's layout, stated once for all kinds.
 --   calls_only, planned, calls_with_cycle, planned_with_cycle == the four kinds
+--   kind_number kind       == the number by which a kind is told, and Decodes number answer that the answer is the kind of this number, or that
+--                            there is none
 --   has_settings kind, has_cycle kind == what a kind is: whether its files hold settings, and whether their trailer holds the cycle
 --   kind_with settings cycle == the kind that is both, either or neither
 --   old_kinds, new_kinds, all_kinds == the kinds of the first issue, those with the cycle, and all; takes kinds kind that it is one of them
@@ -12,13 +14,16 @@
 --   trailer_of net kind K  == the trailer's bytes
 --   file_of net kind note calls settings == the whole file
 --   longest_of kind        == the bytes of the longest file of a kind, and longest_file of the longest file
-use Rattle.std.specs.Prelude.{Bool, cond, List, [], ◌∷◌, ◌++◌, ℕ, ◌+◌, ◌*◌, eqb, leb}
+use Rattle.std.specs.Prelude.{◌≡◌, Bool, false, cond, List, [], ◌∷◌, ◌++◌, ℕ, ◌+◌, ◌*◌, eqb, leb, Result, MatchResult}
 use Rattle.ground.specs.Truth.{all, any}
 use Rattle.ground.specs.Bytes.{high_byte, low_byte}
 use Rattle.shelf.specs.declared.Network.{Network}
 use Rattle.shelf.specs.Network.{most_calls}
 use Rattle.shelf.specs.Rows.{row_count}
 use Rattle.trailer.specs.declared.Kinds.{Kinds}
+use Rattle.trailer.specs.declared.kind.Kind.{Kind}
+use Rattle.trailer.specs.declared.kind.Kind.TheVariants.{CallsOnly, Planned, CallsWithCycle, PlannedWithCycle}
+use Rattle.trailer.specs.declared.kind.UnknownKind.{UnknownKind}
 
 -- ---- the kinds
 
@@ -34,6 +39,12 @@ calls_with_cycle = 3
 
 unfoldable pub planned_with_cycle : ℕ
 planned_with_cycle = 4
+
+abbrev pub kind_number : Kind → ℕ
+kind_number CallsOnly = calls_only
+kind_number Planned = planned
+kind_number CallsWithCycle = calls_with_cycle
+kind_number PlannedWithCycle = planned_with_cycle
 
 -- what a kind is: two facts
 unfoldable pub has_settings : ℕ → Bool
@@ -57,6 +68,9 @@ new_kinds = record { first = calls_with_cycle; last = planned_with_cycle }
 
 unfoldable pub all_kinds : Kinds
 all_kinds = record { first = calls_only; last = planned_with_cycle }
+
+abbrev pub Decodes : ℕ → Result Kind UnknownKind → Type 0
+Decodes number answer = MatchResult answer (λ kind. kind_number kind ≡ number) (λ unknown. (unknown.0 ≡ number) × (takes all_kinds number ≡ false))
 
 -- ---- the layout
 

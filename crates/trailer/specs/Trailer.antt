@@ -5,6 +5,7 @@
 --   cycle_in file, spare_in file == the two bytes at the front of a longer trailer
 --   told_net file          == the network told, with its cycle
 --   has_trailer kinds file == the file is long enough, the mark stands at its end, the kind is one of these, and the spare byte is zero
+--   front_stands file      == of these the last two: the kind's trailer is in the file, and its spare byte is zero
 --   distances_stated ..    == the distances are as stated, no more than the file holds, and leave a note of at most 255 bytes;
 --                            distances_told file is that of the distances in the trailer
 --   no_trailer kinds file, bad_distances file == 14 and 15
@@ -15,7 +16,7 @@
 --   answer_of v layout     == the answer: a refusal where v is one, else the layout
 --   trailer_answer kinds file == what taking the trailer apart answers
 --   TakenApart, LaidOut   == what the function guarantees, and what a layout is whose positions follow one another
-use Rattle.std.specs.Prelude.{◌≡◌, Bool, not, cond, List, [], ◌∷◌, ℕ, ◌+◌, ◌-◌, ◌*◌, ◌≤◌, T, eqb, leb, length, get_or}
+use Rattle.std.specs.Prelude.{◌≡◌, Bool, not, cond, List, [], ◌∷◌, ℕ, ◌+◌, ◌-◌, ◌*◌, ◌≤◌, T, eqb, leb, length, get_or, Result, Ok, Err}
 use Rattle.ground.specs.Truth.{all, any}
 use Rattle.ground.specs.Bytes.{number_at, part}
 use Rattle.shelf.specs.declared.Network.{Network}
@@ -26,8 +27,6 @@ use Rattle.calls.specs.Table.{bad_sizes, too_many_calls}
 use Rattle.trailer.specs.declared.Kinds.{Kinds}
 use Rattle.trailer.specs.declared.Layout.{Layout}
 use Rattle.trailer.specs.declared.Told.{Told}
-use Rattle.trailer.specs.declared.Trailer.{Trailer}
-use Rattle.trailer.specs.declared.Trailer.TheVariants.{Whole, Refused}
 use Rattle.trailer.specs.File.{has_cycle, takes, short_trailer, trailer_length, most_note, mark, settings_distance, calls_distance}
 
 -- "The other twelve are as before", and stand last whatever the kind
@@ -80,6 +79,10 @@ has_trailer kinds file =
     ∷ leb (trailer_length (kind_in file)) (length file)
     ∷ any (not (has_cycle (kind_in file)) ∷ eqb (spare_in file) 0 ∷ [])
     ∷ [])
+
+-- "two more bytes at the front of the trailer: W and a zero"; "14 also for a kind 3 or 4 file under 14 bytes or a spare byte that isn't zero"
+unfoldable pub front_stands : List ℕ → Bool
+front_stands file = all (leb (trailer_length (kind_in file)) (length file) ∷ any (not (has_cycle (kind_in file)) ∷ eqb (spare_in file) 0 ∷ []) ∷ [])
 
 unfoldable pub no_trailer : Kinds → List ℕ → Verdict
 no_trailer kinds file = refused_if 14 0 (not (has_trailer kinds file))
@@ -156,19 +159,19 @@ refused_told v = record {
 
 -- The number and the values of each case of an answer: a whole trailer is success, 0, with what its layout says; a refusal has its
 -- own number and row.
-abbrev pub told_by : Trailer → Told
-told_by (Whole layout) = whole_told layout
-told_by (Refused refusal) = refused_told refusal
+abbrev pub told_by : Result Layout Verdict → Told
+told_by (Ok layout) = whole_told layout
+told_by (Err refusal) = refused_told refusal
 
-unfoldable pub answer_of : Verdict → Layout → Trailer
-answer_of v layout = cond (eqb v.number 0) (Whole layout) (Refused v)
+unfoldable pub answer_of : Verdict → Layout → Result Layout Verdict
+answer_of v layout = cond (eqb v.number 0) (Ok layout) (Err v)
 
-unfoldable pub trailer_answer : Kinds → List ℕ → Trailer
+unfoldable pub trailer_answer : Kinds → List ℕ → Result Layout Verdict
 trailer_answer kinds file = answer_of (trailer_verdict kinds file) (layout_of file)
 
 -- ---- what is guaranteed
 
-pub record TakenApart (kinds : Kinds) (file : List ℕ) (answer : Trailer) : Type 0 where
+pub record TakenApart (kinds : Kinds) (file : List ℕ) (answer : Result Layout Verdict) : Type 0 where
   pub is_answer : answer ≡ trailer_answer kinds file
   -- the number of its case: that of 14, 1, 3 and 15 in this order, else 0
   pub number : (told_by answer).number ≡ (trailer_verdict kinds file).number

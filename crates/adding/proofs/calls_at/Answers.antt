@@ -1,40 +1,19 @@
--- `adding::calls_at` meets its contract. The loop's invariant: the calls counted are those of the rows passed so far.
-use Rattle.std.proofs.Common.{◌≡◌, refl, sym, ◌∙◌, ◌+◌, ◌≤◌, le_antisymm, add-one, arith, length, eq-eqb, ne_eqb}
-use Rattle.shelf.specs.Rows.{row_count, module_of}
-use Rattle.choice.specs.Colouring.{rows_below, at_module}
-use Rattle.choice.proofs.Count.{count_next}
+-- `adding::calls_at` meets its contract: the calls that the filter leaves are those that stand at the module.
+use Rattle.std.proofs.Common.{rules, arith, ◌∙◌, ℕ, Bool, eqb}
+use borrow.Author.Tests.{tests}
+use Rattle.std.proofs.lemmas.Iterator.{YieldsList-from_range}
+use Rattle.std.proofs.lemmas.Iterator.Consumers.{YieldsList-from_filter, count_from_yields_List}
+use Rattle.shelf.specs.Rows.{row_count, module_of, is_output}
+use Rattle.adding.proofs.Searching.{count_rows, count_few}
 use Rattle.adding.proofs.calls_at.Goals as goal
-use Rattle.adding.proofs.calls_at.Goals.{Joined-module_at-module, then-module_at-module, else-module_at-module}
-
--- the row of the loop is counted, or not
-counted : (c : Joined-module_at-module) →
-    let count = c.if-module_at-module.count in
-    let row = c.loop-row.row in
-    (count ≡ length (at_module (module_of c.args.calls.now c.args.output) (row + 1) c.args.«module»)) × (count ≤ row + 1)
-counted c =
-    let inv = c.loop-row.invariant in
-    let row = c.loop-row.row in
-    let side = module_of c.args.calls.now c.args.output in
-    elim c.if-module_at-module.branch [
-      | then-module_at-module here ↦ (
-        here.count-is ∙ rw (add-one row, count_next side row c.args.«module», eq-eqb _ _ (sym c.module_at.ensures ∙ here.if-module_at-module.true)) (omega (arith, inv.1)),
-        omega (arith, here.count-is, inv.2),
-      )
-      | else-module_at-module other ↦ (
-        other.count-is ∙ rw (add-one row, count_next side row c.args.«module», ne_eqb _ _ (λ e. other.if-module_at-module.false (c.module_at.ensures ∙ e))) inv.1,
-        omega (arith, other.count-is, inv.2),
-      )
-    ]
-
-pub loop-row-init : goal.loop-row-init
-unfolding rows_below
-loop-row-init c = (omega arith, refl, omega arith)
-
-pub loop-row-preserved : goal.loop-row-preserved
-loop-row-preserved c = let more = counted (goal.at.loop-row-preserved c).Joined-module_at-module in (omega arith, more.0, more.1)
 
 pub returns : goal.returns
 unfolding row_count
 returns c =
-    let inv = c.loop-row.invariant in
-    rw (← le_antisymm inv.0 c.loop-row-test.false) (inv.1, inv.2)
+    let side = module_of c.args.calls.now (is_output c.args.side) in
+    let K = row_count c.args.calls.now in
+    let test : ℕ → Bool = λ i. eqb (side i) c.args.«module» in
+    let count = count_from_yields_List _ _ c.count.ensures.ran
+    (YieldsList-from_filter _ test (YieldsList-from_range 0 K K c.filter.ensures.source (omega arith)) c.filter.ensures.closure (λ x b q k. search (rules, tests)))
+    ∙ count_rows side c.args.«module» K in
+    (count, omega (arith, count, count_few side c.args.«module» K))

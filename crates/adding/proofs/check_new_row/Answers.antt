@@ -1,5 +1,6 @@
 -- `adding::check_new_row` meets its contract: each check is that of the table's last row, and the first that refuses is the answer.
-use Rattle.std.proofs.Common.{◌≡◌, sym, ap, ◌∙◌, Bool, true, false, List, [], ◌∷◌, ◌++◌, ℕ, ◌<◌, arith, length}
+use Rattle.std.proofs.Common.{◌≡◌, sym, ap, ◌∙◌, ⊎_elim, Bool, true, false, List, [], ◌∷◌, ◌++◌, ℕ, ◌<◌, arith, length}
+use Rattle.std.proofs.lemmas.Bool.{cases_lt}
 use Rattle.shelf.specs.declared.Network.{Network}
 use Rattle.shelf.specs.Rows.{row_count, module_of}
 use Rattle.shelf.specs.Order.{order}
@@ -12,7 +13,7 @@ use Rattle.planner.specs.Planner.{overfull_at}
 use Rattle.adding.specs.Adding.{new_row_checks}
 use Rattle.adding.specs.Appending.{call_new, point_new, overfull_side, overfull_none}
 use Rattle.adding.proofs.check_new_row.Goals as goal
-use Rattle.adding.proofs.check_new_row.Goals.{After-is_outside, After-has_point, After-has_point-2, Else-has_point-2, After-calls_at, After-calls_at-2}
+use Rattle.adding.proofs.check_new_row.Goals.{After-is_outside, After-has_point, After-has_point-2, Else-has_point-2, After-calls_at-outputs}
 
 -- The checks from 8, from 7, from 6 and from 5 on.
 module _ (net : Network) (calls call : List ℕ) where
@@ -72,11 +73,11 @@ only_8 c =
     (sym (point_new _ c.args.call.now whole false c.point_at.ensures c.has_point.ensures) ∙ c.if-has_point.false)
     (sym (point_new _ c.args.call.now whole true c.point_at-2.ensures c.has_point-2.ensures) ∙ c.if-has_point-2.false)
 
-inputs_here : (c : After-calls_at) → c.calls_at.result ≡ Standing c.args.net c.args.calls.now c.args.call.now false
-inputs_here c = c.calls_at.ensures.0 ∙ ap (λ (v : ℕ). length (at_module (module_of c.args.calls.now false) (row_count c.args.calls.now) v)) c.at-new.ensures.input_module
-
-outputs_here : (c : After-calls_at-2) → c.calls_at-2.result ≡ Standing c.args.net c.args.calls.now c.args.call.now true
-outputs_here c = c.calls_at-2.ensures.0 ∙ ap (λ (v : ℕ). length (at_module (module_of c.args.calls.now true) (row_count c.args.calls.now) v)) c.at-new.ensures.output_module
+counts_here : (c : After-calls_at-outputs) → (c.calls_at-inputs.result ≡ Standing c.args.net c.args.calls.now c.args.call.now false)
+    × (c.calls_at-outputs.result ≡ Standing c.args.net c.args.calls.now c.args.call.now true)
+counts_here c =
+    let standing : Bool → ℕ → ℕ = λ output v. length (at_module (module_of c.args.calls.now output) (row_count c.args.calls.now) v) in
+    (c.calls_at-inputs.ensures.0 ∙ ap (standing false) c.at-new.ensures.input_module, c.calls_at-outputs.ensures.0 ∙ ap (standing true) c.at-new.ensures.output_module)
 
 pub returns-then-is_outside : goal.returns-then-is_outside
 unfolding new_row_checks row_count
@@ -95,25 +96,21 @@ returns-then-has_point-2 c =
     past_6 _ _ _ (sym (outside_here at.After-is_outside) ∙ c.if-is_outside.false) (sym (inlet_here at.After-has_point) ∙ c.if-has_point.false)
     (test_stops 6 _ _ (sym (outlet_here at.After-has_point-2) ∙ c.if-has_point-2.true))
 
-pub returns-then-centrals-calls_at : goal.returns-then-centrals-calls_at
+pub returns-then-centrals-max : goal.returns-then-centrals-max
 unfolding row_count
-returns-then-centrals-calls_at c =
-    let at = goal.at.returns-then-centrals-calls_at c in
-    only_8 at.Else-has_point-2 (test_stops 7 _ _ (overfull_side c.args.calls.now c.args.call.now c.requires.whole c.args.net false
-    (omega (arith, inputs_here at.After-calls_at, c.centrals.ensures, c.if-centrals-calls_at.true))))
-
-pub returns-then-centrals-calls_at-2 : goal.returns-then-centrals-calls_at-2
-unfolding row_count
-returns-then-centrals-calls_at-2 c =
-    let at = goal.at.returns-then-centrals-calls_at-2 c in
-    only_8 at.Else-has_point-2 (test_stops 7 _ _ (overfull_side c.args.calls.now c.args.call.now c.requires.whole c.args.net true
-    (omega (arith, outputs_here at.After-calls_at-2, c.centrals-2.ensures, c.if-centrals-calls_at-2.true))))
+returns-then-centrals-max c =
+    let at = goal.at.returns-then-centrals-max c in
+    let here = counts_here at.After-calls_at-outputs in
+    let side = overfull_side c.args.calls.now c.args.call.now c.requires.whole c.args.net in
+    only_8 at.Else-has_point-2 (test_stops 7 _ _ (⊎_elim
+    (λ l. side true (omega (arith, l, here.0, here.1, c.centrals.ensures, c.max.ensures, c.if-centrals-max.true)))
+    (λ m. side false m)
+    (cases_lt (Standing c.args.net c.args.calls.now c.args.call.now false) (length (order c.args.net)))))
 
 pub returns : goal.returns
 unfolding passed
 returns c =
     let at = goal.at.returns c in
+    let here = counts_here at.After-calls_at-outputs in
     only_8 at.Else-has_point-2 (test_passes 8 _ (overfull_none c.args.calls.now c.args.call.now c.requires.whole c.args.net
-    (room c.args.net c.args.calls.now c.args.call.now
-    (omega (arith, inputs_here at.After-calls_at, c.centrals.ensures, c.if-centrals-calls_at.false))
-    (omega (arith, outputs_here at.After-calls_at-2, c.centrals-2.ensures, c.if-centrals-calls_at-2.false)))))
+    (room c.args.net c.args.calls.now c.args.call.now (omega (arith, here.0, c.centrals.ensures, c.max.ensures, c.if-centrals-max.false)) (omega (arith, here.1, c.centrals.ensures, c.max.ensures, c.if-centrals-max.false)))))

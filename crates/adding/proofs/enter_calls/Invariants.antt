@@ -1,10 +1,6 @@
 -- `adding::enter_calls` meets its contract. The loop's invariant: the modules of the calls passed so far are entered.
-use Rattle.std.proofs.Common.{◌-◌}
 use Rattle.adding.specs.Steps.{Entered}
 use Rattle.adding.proofs.enter_calls.Given as goal
 
 abbrev pub invariant-loop-row : goal.invariant-loop-row
 invariant-loop-row l = Entered l.calls l.initial.rows l.row l.rows
-
-abbrev pub decreases-loop-row : goal.decreases-loop-row
-decreases-loop-row l = l.count - l.row

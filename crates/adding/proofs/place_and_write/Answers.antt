@@ -1,15 +1,13 @@
 -- `adding::place_and_write` meets its contract: the given centrals and the modules of the calls, one placement, and the wavelengths.
 use Rattle.std.proofs.Common.{refl, arith}
-use Rattle.shelf.specs.Network.{most_modules, most_centrals}
+use Rattle.shelf.specs.Network.{most_modules}
 use Rattle.shelf.specs.NetworkLaws.{limits_are}
-use Rattle.choice.specs.Record.{modules_of_both, record_size, nothing_used}
 use Rattle.choice.specs.Placement.{chain_places}
 use Rattle.adding.proofs.Entering.{prepared, recordable, ready, tellable, writable, added}
 use Rattle.adding.proofs.place_and_write.Goals as goal
 
 pub record_rows-requires : goal.record_rows-requires
-unfolding nothing_used record_size modules_of_both most_modules most_centrals
-record_rows-requires c = (refl, recordable c.requires (prepared c.requires c.write_bytes.ensures c.enter_calls.ensures))
+record_rows-requires c = (c.new-used.ensures, recordable c.requires (prepared c.requires c.write_bytes.ensures c.enter_calls.ensures))
 
 pub place_rest-moved-requires : goal.place_rest-moved-requires
 unfolding chain_places most_modules

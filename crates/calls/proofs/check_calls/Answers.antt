@@ -1,32 +1,33 @@
 -- `calls::check_calls` meets its contract: the first search that refuses is the answer.
-use Rattle.std.proofs.Common.{Bool, ℕ, ◌<◌, arith}
+use Rattle.std.proofs.Common.{Bool, ℕ, ◌<◌, refl, rules}
 use Rattle.shelf.specs.Rows.{row_count}
-use Rattle.calls.specs.VerdictLaws.{turn_stops, turn_goes_on, turn_last}
+use Rattle.calls.specs.Verdict.{passed}
+use Rattle.calls.specs.VerdictLaws.{turn_last}
+use Rattle.calls.specs.RefusalLaws.{err_stops, ok_goes_on}
 use Rattle.calls.specs.Table.{call_checks, PointFits}
 use Rattle.calls.specs.TableLaws.{inside_points}
 use Rattle.calls.proofs.check_calls.Goals as goal
-use Rattle.calls.proofs.check_calls.Goals.{Else-stray-ne0}
+use Rattle.calls.proofs.check_calls.Goals.{In_ok-seek_outside}
 
-fits : (c : Else-stray-ne0) (outlets : Bool) (i : ℕ) → i < row_count c.args.calls.now → PointFits c.args.calls.now outlets i
-fits c outlets = inside_points _ _ _ c.requires (rw c.seek_outside-stray.ensures at c.if-stray-ne0.false)
+fits : (c : In_ok-seek_outside) (outlets : Bool) (i : ℕ) → i < row_count c.args.calls.now → PointFits c.args.calls.now outlets i
+unfolding passed
+fits c outlets = inside_points _ _ _ c.requires (rw (← c.in_ok-seek_outside.ensures) refl)
 
-pub returns-then-stray-ne0 : goal.returns-then-stray-ne0
+pub returns-in_err-seek_outside : goal.returns-in_err-seek_outside
 unfolding call_checks
-returns-then-stray-ne0 c = turn_stops _ c.seek_outside-stray.ensures c.if-stray-ne0.true
-
-pub seek_repeat-inlet-requires : goal.seek_repeat-inlet-requires
-seek_repeat-inlet-requires c = ((λ e. omega arith), fits (goal.at.seek_repeat-inlet-requires c).Else-stray-ne0 _)
-
-pub returns-then-inlet-ne0 : goal.returns-then-inlet-ne0
-unfolding call_checks
-returns-then-inlet-ne0 c =
-    turn_goes_on _ _ c.seek_outside-stray.ensures c.if-stray-ne0.false (turn_stops _ c.seek_repeat-inlet.ensures c.if-inlet-ne0.true)
+returns-in_err-seek_outside c = search (rules, err_stops)
 
 pub seek_repeat-requires : goal.seek_repeat-requires
-seek_repeat-requires c = ((λ e. omega arith), fits (goal.at.seek_repeat-requires c).Else-stray-ne0 _)
+seek_repeat-requires c = fits (goal.at.seek_repeat-requires c).In_ok-seek_outside _
+
+pub returns-in_err-seek_repeat : goal.returns-in_err-seek_repeat
+unfolding call_checks
+returns-in_err-seek_repeat c =
+    search (rules, err_stops, ok_goes_on)
+
+pub seek_repeat-requires-2 : goal.seek_repeat-requires-2
+seek_repeat-requires-2 c = fits (goal.at.seek_repeat-requires-2 c).In_ok-seek_outside _
 
 pub returns : goal.returns
 unfolding call_checks
-returns c =
-    turn_goes_on _ _ c.seek_outside-stray.ensures c.if-stray-ne0.false
-    (turn_goes_on _ _ c.seek_repeat-inlet.ensures c.if-inlet-ne0.false (turn_last c.seek_repeat.ensures))
+returns c = ok_goes_on _ _ c.in_ok-seek_outside.ensures (ok_goes_on _ _ c.in_ok-seek_repeat.ensures (turn_last c.seek_repeat-2.ensures))

@@ -9,15 +9,15 @@ use Rattle.calls.proofs.seek_outside.Goals as goal
 
 pub loop-row-init : goal.loop-row-init
 unfolding seek_rows
-loop-row-init c = (omega arith, refl)
+loop-row-init c = refl
 
 pub returns-then-is_outside : goal.returns-then-is_outside
 unfolding outside_row row_count
-returns-then-is_outside c = seek_bad 5 (outside _ _) _ _ (λ e. omega arith) c.loop-row.invariant.1 (sym (outside_read _ _ _ _ c.at.ensures) ∙ sym c.is_outside.ensures ∙ c.if-is_outside.true) c.loop-row-test.true
+returns-then-is_outside c = seek_bad 5 (outside _ _) _ _ (λ e. omega arith) c.loop-row.invariant (sym (outside_read _ _ _ _ c.at.ensures) ∙ sym c.is_outside.ensures ∙ c.if-is_outside.true) c.loop-row-test.true
 
 pub loop-row-preserved : goal.loop-row-preserved
-loop-row-preserved c = (omega arith, seek_good 5 (outside _ _) _ c.loop-row.invariant.1 (sym (outside_read _ _ _ _ c.at.ensures) ∙ sym c.is_outside.ensures ∙ c.if-is_outside.false))
+loop-row-preserved c = seek_good 5 (outside _ _) _ c.loop-row.invariant (sym (outside_read _ _ _ _ c.at.ensures) ∙ sym c.is_outside.ensures ∙ c.if-is_outside.false)
 
 pub returns : goal.returns
 unfolding outside_row row_count passed
-returns c = seek_end 5 (outside _ _) _ _ c.loop-row.invariant.0 c.loop-row-test.false c.loop-row.invariant.1
+returns c = seek_end 5 (outside _ _) _ _ c.loop-row.auto.row-end c.loop-row-test.false c.loop-row.invariant

@@ -2,10 +2,10 @@
 use Rattle.choice.specs.Rows.{module_in}
 use Rattle.choice.proofs.module_at.Goals as goal
 
-pub returns-then-output : goal.returns-then-output
+pub returns-in-Input : goal.returns-in-Input
 unfolding module_in
-returns-then-output c = rw c.if-output.true
+returns-in-Input c = rw c.in-Input.is
 
-pub returns-else-output : goal.returns-else-output
+pub returns-in-Output : goal.returns-in-Output
 unfolding module_in
-returns-else-output c = rw c.if-output.false
+returns-in-Output c = rw c.in-Output.is

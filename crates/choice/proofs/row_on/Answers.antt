@@ -1,36 +1,17 @@
--- `choice::row_on` meets its contract: what the search has told at each of its ends.
-use Rattle.std.proofs.Common.{sym, ◌∙◌, refl, arith}
-use Rattle.choice.specs.Rule.{at, first_below}
+-- `choice::row_on` meets its contract: the first row that the search finds is the rule's.
+use Rattle.std.proofs.Common.{◌≡◌, ℕ, arith, rules, tests}
+use Rattle.std.proofs.lemmas.Iterator.{first_from_Range}
+use Rattle.choice.specs.Rule.{at}
 use Rattle.choice.specs.Rows.{module_in, centrals_of}
-use Rattle.choice.proofs.Mending.{on_hit, on_miss, on_end}
+use Rattle.shelf.specs.Rows.{is_output}
+use Rattle.choice.proofs.Mending.{search_answer}
 use Rattle.choice.proofs.row_on.Goals as goal
-use Rattle.choice.proofs.row_on.Goals.{then-module_at-module+else-central_at-central, else-module_at-module}
-
-pub loop-row-init : goal.loop-row-init
-unfolding first_below
-loop-row-init c = (omega (arith, c.requires.0), c.module_at-module.ensures, refl)
-
-pub returns-then-central_at-central : goal.returns-then-central_at-central
-returns-then-central_at-central c =
-    let inv = c.loop-row.invariant in (
-      on_hit (module_in _ _) (at (centrals_of _)) _ _ _ inv.2 _ (sym c.module_at.ensures ∙ c.if-module_at-module.true ∙ inv.1) (sym c.central_at.ensures ∙ c.if-central_at-central.true)
-          (omega (arith, c.loop-row-test.true, c.requires.1)),
-      inv.0,
-    )
-
-pub loop-row-preserved : goal.loop-row-preserved
-loop-row-preserved c =
-    let inv = c.loop-row.invariant in (
-      omega (arith, c.loop-row-test.true, c.requires.1),
-      inv.1,
-      on_miss (module_in _ _) (at (centrals_of _)) _ _ _ inv.2 (λ w.
-          elim c.if-module_at-module.branch [
-            | then-module_at-module+else-central_at-central u ↦ u.if-central_at-central.false (u.central_at.ensures ∙ w.1)
-            | else-module_at-module u ↦ u.if-module_at-module.false (c.module_at.ensures ∙ w.0 ∙ sym inv.1)
-          ]),
-    )
 
 pub returns : goal.returns
 returns c =
-    let inv = c.loop-row.invariant in
-    (on_end (module_in _ _) (at (centrals_of _)) _ _ _ inv.2 _ (omega (arith, inv.0, c.loop-row-test.false)), inv.0)
+    let s = c.args in
+    let module_of : ℕ → ℕ = module_in s.rows.now (is_output s.side) in
+    let central_of : ℕ → ℕ = at (centrals_of s.rows.now) in
+    search_answer module_of central_of _ _ _ _ (first_from_Range _ _ _ _ (λ i. (module_of i ≡ module_of s.from) × (central_of i ≡ s.central)) (λ i. (module_of i ≡ module_of s.from) × (central_of i ≡ s.central) → ⊥) c.find.ensures.ran
+    (λ x q k. grind (arith, tests))
+    (λ x q k. (search rules, grind (arith, tests))))

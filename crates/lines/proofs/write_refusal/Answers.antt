@@ -1,53 +1,41 @@
 -- `lines::write_refusal` meets its contract: the words and numbers of a refusal stand one behind the other.
-use Rattle.std.proofs.Common.{sym, ◌≤◌, arith, length, length-append}
-use Rattle.ground.specs.BytesLaws.{adds_both, adds_same, adds_length}
+use Rattle.std.proofs.Common.{sym, ◌≤◌, arith, length}
+use Rattle.calls.specs.Refusal.{number_of, row_of}
 use Rattle.lines.specs.Text.{newline, decimal}
 use Rattle.lines.specs.TextLaws.{number_length, refused_is}
 use Rattle.lines.specs.Writing.{number_digits, most_sizes, most_first_line}
+use Rattle.lines.specs.WritingLaws.{writes_both, writes_same}
 use Rattle.lines.proofs.write_refusal.Goals as goal
-use Rattle.lines.proofs.write_refusal.Goals.{Start}
+use Rattle.lines.proofs.write_refusal.Goals.{After-row-row}
 
--- the room that there is, and the digits of the two numbers
-record Room (c : Start) : Type 0 where
-  enough : most_first_line ≤ length c.args.out.now
-  number : length (decimal c.args.number) ≤ number_digits
-  row : length (decimal c.args.row) ≤ number_digits
+-- the digits of the two numbers
+digits : (c : After-row-row) → (length (decimal c.number-number.result) ≤ number_digits) × (length (decimal c.row-row.result) ≤ number_digits)
+digits c = (number_length _ c.number-number.type_inv, number_length _ c.row-row.type_inv)
 
-room : (c : Start) → Room c
-room c = record { enough = c.requires; number = number_length _ c.ranges.number.fits; row = number_length _ c.ranges.row.fits }
-
-pub write_bytes-number_at-requires : goal.write_bytes-number_at-requires
+pub bytes-requires : goal.bytes-requires
 unfolding most_first_line most_sizes number_digits
-write_bytes-number_at-requires c = omega (arith, room (goal.at.write_bytes-number_at-requires c).Start)
+bytes-requires c = omega arith
 
-pub write_number-word_at-requires : goal.write_number-word_at-requires
+pub number-requires : goal.number-requires
 unfolding most_first_line most_sizes number_digits
-write_number-word_at-requires c =
-    let one = c.write_bytes-number_at.ensures in
-    omega (arith, room (goal.at.write_number-word_at-requires c).Start, one.is_next, adds_length one)
+number-requires c = omega (arith, digits (goal.at.number-requires c).After-row-row)
 
-pub write_bytes-row_at-requires : goal.write_bytes-row_at-requires
+pub bytes-requires-2 : goal.bytes-requires-2
 unfolding most_first_line most_sizes number_digits
-write_bytes-row_at-requires c =
-    let two = adds_both c.write_bytes-number_at.ensures c.write_number-word_at.ensures in
-    omega (arith, room (goal.at.write_bytes-row_at-requires c).Start, simp length-append at two.is_next, adds_length two)
+bytes-requires-2 c = omega (arith, digits (goal.at.bytes-requires-2 c).After-row-row)
 
-pub write_number-end-requires : goal.write_number-end-requires
+pub number-requires-2 : goal.number-requires-2
 unfolding most_first_line most_sizes number_digits
-write_number-end-requires c =
-    let three = adds_both (adds_both c.write_bytes-number_at.ensures c.write_number-word_at.ensures) c.write_bytes-row_at.ensures in
-    omega (arith, room (goal.at.write_number-end-requires c).Start, simp length-append at three.is_next, adds_length three)
+number-requires-2 c = omega (arith, digits (goal.at.number-requires-2 c).After-row-row)
 
-pub write_byte-requires : goal.write_byte-requires
+pub byte-requires : goal.byte-requires
 unfolding most_first_line most_sizes number_digits
-write_byte-requires c =
-    let two = adds_both c.write_bytes-number_at.ensures c.write_number-word_at.ensures in
-    let four = adds_both (adds_both two c.write_bytes-row_at.ensures) c.write_number-end.ensures in
-    omega (arith, room (goal.at.write_byte-requires c).Start, simp length-append at four.is_next, adds_length four)
+byte-requires c = omega (arith, digits (goal.at.byte-requires c).After-row-row)
 
 pub returns : goal.returns
 unfolding newline
 returns c =
-    let two = adds_both c.write_bytes-number_at.ensures c.write_number-word_at.ensures in
-    let four = adds_both (adds_both two c.write_bytes-row_at.ensures) c.write_number-end.ensures in
-    adds_same (adds_both four c.write_byte.ensures) (sym (refused_is _ _))
+    let two = writes_both c.bytes.ensures c.number.ensures in
+    let four = writes_both (writes_both two c.bytes-2.ensures) c.number-2.ensures in
+    let text = sym (refused_is (number_of c.args.refusal) (row_of c.args.refusal)) in
+    writes_same (writes_both four c.byte.ensures) (rw (c.number-number.ensures, c.row-row.ensures) text)

@@ -1,5 +1,5 @@
 -- `planfile::check_table` meets its contract: the checks of the calls alone, or for a planned file those of acceptance.
-use Rattle.std.proofs.Common.{sym, ◌∙◌}
+use Rattle.std.proofs.Common.{sym, ◌∙◌, rules}
 use Rattle.trailer.specs.File.{settings_per_call, settings_distance}
 use Rattle.planfile.specs.Checks.{table_checks}
 use Rattle.planfile.proofs.check_table.Goals as goal
@@ -11,8 +11,8 @@ check_rows-requires c =
 
 pub returns-then-has_settings : goal.returns-then-has_settings
 unfolding table_checks
-returns-then-has_settings c = rw (sym c.has_settings.ensures ∙ c.if-has_settings.true) c.check_rows.ensures
+returns-then-has_settings c = rw (sym c.has_settings.ensures ∙ c.if-has_settings.true) (search rules)
 
-pub returns : goal.returns
+pub returns-else-has_settings : goal.returns-else-has_settings
 unfolding table_checks
-returns c = rw (sym c.has_settings.ensures ∙ c.if-has_settings.false) c.check_calls.ensures
+returns-else-has_settings c = rw (sym c.has_settings.ensures ∙ c.if-has_settings.false) (search rules)

@@ -1,14 +1,13 @@
 -- `planner::place_and_write` meets its contract: the rows, all placed, become the settings.
 use Rattle.std.proofs.Common.{refl, ◌∙◌}
-use Rattle.shelf.specs.Network.{most_modules, most_centrals}
-use Rattle.choice.specs.Record.{modules_of_both, record_size, nothing_used}
+use Rattle.shelf.specs.Network.{most_modules}
 use Rattle.choice.specs.Placement.{chain_places}
 use Rattle.planner.proofs.PlannerLaws.{ready, writable, moved_planned, written_planned}
 use Rattle.planner.proofs.place_and_write.Goals as goal
 
 pub place_rest-moved-requires : goal.place_rest-moved-requires
-unfolding chain_places nothing_used record_size modules_of_both most_modules most_centrals
-place_rest-moved-requires c = ready c.requires refl
+unfolding chain_places most_modules
+place_rest-moved-requires c = rw c.new-used.ensures (ready c.requires refl)
 
 pub write_wavelengths-requires : goal.write_wavelengths-requires
 write_wavelengths-requires c = rw c.cycle.ensures (writable c.requires c.place_rest-moved.ensures)

@@ -1,5 +1,5 @@
 -- `planner::seek_overfull` meets its contract.
-use Rattle.std.proofs.Common.{◌≡◌, refl, true, false, suc, ◌+◌, ◌≤◌, ◌<◌, arith, length}
+use Rattle.std.proofs.Common.{◌≡◌, refl, true, false, suc, ◌+◌, ◌<◌, arith, length}
 use Rattle.shelf.specs.Network.{most_modules, most_centrals}
 use Rattle.shelf.specs.NetworkLaws.{limits_are}
 use Rattle.shelf.specs.Rows.{row_count, α, β}
@@ -8,9 +8,9 @@ use Rattle.calls.specs.VerdictLaws.{seek_bad, seek_good, seek_end}
 use Rattle.choice.specs.Colouring.{at_module}
 use Rattle.choice.specs.Record.{modules_of_both, module_number}
 use Rattle.planner.specs.Planner.{overfull, overfull_row}
-use Rattle.planner.proofs.Tally.{Tally, number_below, no_calls, outputs_kept, inputs_now, outputs_now, tally_next, counts_small, overfull_input, overfull_output, not_overfull}
+use Rattle.planner.proofs.Tally.{Tally, number_below, no_calls, outputs_kept, inputs_now, outputs_now, tally_next, counts_small, overfull_larger, not_overfull}
 use Rattle.planner.proofs.seek_overfull.Goals as goal
-use Rattle.planner.proofs.seek_overfull.Goals.{After-at-call, After-one_more-outputs, After-centrals-in-loop-row}
+use Rattle.planner.proofs.seek_overfull.Goals.{After-at-call, After-one_more-outputs}
 
 -- the row's modules are those of the largest network
 small_modules : (c : After-at-call) → (α c.args.calls.now c.loop-row.row < most_modules) × (β c.args.calls.now c.loop-row.row < most_modules)
@@ -29,57 +29,44 @@ counted : (c : After-one_more-outputs) →
     × Tally calls c.one_more-outputs.new.tally (row + 1)
 unfolding module_number most_modules
 counted c =
-    let t = c.loop-row.invariant.1 in
+    let t = c.loop-row.invariant.0 in
     let small = small_modules (goal.at.After-one_more-outputs c).After-at-call in
     let m = rw c.at-call.ensures.input_module at c.one_more-inputs.ensures in
     let n = rw c.at-call.ensures.output_module at c.one_more-outputs.ensures in
     (inputs_now _ _ _ _ _ _ _ t small.0 small.1 m n, outputs_now _ _ _ _ _ _ _ t small.0 small.1 m n, tally_next _ _ _ _ _ _ _ t small.0 small.1 m n)
 
--- its input module has room: the number of centrals is the same when it is asked again
-input_fits : (c : After-centrals-in-loop-row) → c.one_more-inputs.result ≤ c.centrals-in-loop-row.result
-input_fits c = omega arith
-
 pub loop-row-init : goal.loop-row-init
 unfolding seek_rows modules_of_both most_modules
-loop-row-init c = (omega arith, no_calls _, refl)
+loop-row-init c = (no_calls _, refl)
 
 pub one_more-inputs-requires : goal.one_more-inputs-requires
-unfolding module_number most_modules most_centrals
+unfolding module_number modules_of_both most_modules most_centrals
 one_more-inputs-requires c =
     let small = (small_modules (goal.at.one_more-inputs-requires c).After-at-call).0 in
     let inv = c.loop-row.invariant in
-    let count = counts_small _ _ _ c.requires.0 inv.2 false (α c.args.calls.now c.loop-row.row) in
-    rw c.at-call.ensures.input_module (number_below false _ small, omega (arith, inv.1.counts false _ small))
+    let count = counts_small _ _ _ c.requires.0 inv.1 false (α c.args.calls.now c.loop-row.row) in
+    rw c.at-call.ensures.input_module (number_below false _ small, omega (arith, inv.0.counts false _ small))
 
 pub one_more-outputs-requires : goal.one_more-outputs-requires
-unfolding module_number most_modules most_centrals
+unfolding module_number modules_of_both most_modules most_centrals
 one_more-outputs-requires c =
     let small = small_modules (goal.at.one_more-outputs-requires c).After-at-call in
     let inv = c.loop-row.invariant in
-    let count = counts_small _ _ _ c.requires.0 inv.2 true (β c.args.calls.now c.loop-row.row) in
+    let count = counts_small _ _ _ c.requires.0 inv.1 true (β c.args.calls.now c.loop-row.row) in
     rw c.at-call.ensures.output_module
-    (number_below true _ small.1, omega (arith, outputs_kept _ _ _ _ _ inv.1 small.0 (rw c.at-call.ensures.input_module at c.one_more-inputs.ensures) _ small.1))
+    (number_below true _ small.1, omega (arith, outputs_kept _ _ _ _ _ inv.0 small.0 (rw c.at-call.ensures.input_module at c.one_more-inputs.ensures) _ small.1))
 
-pub returns-then-centrals-inputs : goal.returns-then-centrals-inputs
+pub returns-then-centrals-max : goal.returns-then-centrals-max
 unfolding overfull_row row_count
-returns-then-centrals-inputs c =
-    let n = counted (goal.at.returns-then-centrals-inputs c).After-one_more-outputs in
-    seek_bad 8 (overfull _ _) _ _ (λ e. omega arith) c.loop-row.invariant.2 (overfull_input _ _ _ _ _ _ c.centrals.ensures n.0 n.1 c.if-centrals-inputs.true) c.loop-row-test.true
-
-pub returns-then-centrals-outputs : goal.returns-then-centrals-outputs
-unfolding overfull_row row_count
-returns-then-centrals-outputs c =
-    let n = counted (goal.at.returns-then-centrals-outputs c).After-one_more-outputs in
-    let fits = input_fits (goal.at.returns-then-centrals-outputs c).After-centrals-in-loop-row in
-    seek_bad 8 (overfull _ _) _ _ (λ e. omega arith) c.loop-row.invariant.2 (overfull_output _ _ _ _ _ _ c.centrals-in-loop-row.ensures n.0 n.1 fits c.if-centrals-outputs.true)
-    c.loop-row-test.true
+returns-then-centrals-max c =
+    let n = counted (goal.at.returns-then-centrals-max c).After-one_more-outputs in
+    seek_bad 8 (overfull _ _) _ _ (λ e. omega arith) c.loop-row.invariant.1 (overfull_larger _ _ _ _ _ _ c.centrals.ensures n.0 n.1 (rw c.max.ensures at c.if-centrals-max.true)) c.loop-row-test.true
 
 pub loop-row-preserved : goal.loop-row-preserved
 loop-row-preserved c =
     let n = counted (goal.at.loop-row-preserved c).After-one_more-outputs in
-    let fits = input_fits (goal.at.loop-row-preserved c).After-centrals-in-loop-row in
-    (omega arith, n.2, seek_good 8 (overfull _ _) _ c.loop-row.invariant.2 (not_overfull _ _ _ _ _ _ c.centrals-in-loop-row.ensures n.0 n.1 fits c.if-centrals-outputs.false))
+    (n.2, seek_good 8 (overfull _ _) _ c.loop-row.invariant.1 (not_overfull _ _ _ _ _ _ c.centrals.ensures n.0 n.1 (omega arith) (omega arith)))
 
 pub returns : goal.returns
 unfolding overfull_row row_count passed
-returns c = seek_end 8 (overfull _ _) _ _ c.loop-row.invariant.0 c.loop-row-test.false c.loop-row.invariant.2
+returns c = seek_end 8 (overfull _ _) _ _ c.loop-row.auto.row-end c.loop-row-test.false c.loop-row.invariant.1

@@ -19,13 +19,13 @@ room h = rw length_file at h.enough
 trailer : (c : After-trailer_length-shorter)
     → part c.trailer_of-longer.result (14 - c.trailer_length-shorter.result) 14
     ≡ trailer_of c.args.net c.args.kind
-    (row_count c.args.calls.now)
+    (row_count c.args.parts.calls.now)
 unfolding row_count long_trailer
 trailer c = trailer_rest _ _ _ c.trailer_of-longer.ensures c.trailer_length-shorter.ensures
 
 pub trailer_of-longer-requires : goal.trailer_of-longer-requires
 unfolding row_count
-trailer_of-longer-requires c = let pre = c.requires in (pre.1.limits, pre.0, pre.1.few)
+trailer_of-longer-requires c = (c.requires.1.limits, c.requires.0, c.requires.1.few)
 
 pub write_bytes-calls_at-requires : goal.write_bytes-calls_at-requires
 write_bytes-calls_at-requires c = omega (arith, room c.requires.1)
@@ -48,7 +48,7 @@ pub write_bytes-requires : goal.write_bytes-requires
 unfolding part
 write_bytes-requires c =
     let three = adds_both (adds_both c.write_bytes-calls_at.ensures c.write_bytes-settings_at.ensures) c.write_bytes-trailer_at.ensures in
-    omega (arith, room c.requires.1, ap length (trailer (goal.at.write_bytes-requires c).After-trailer_length-shorter), length_trailer c.args.net c.args.kind (row_count c.args.calls.now), simp length-append at three.is_next, adds_length three)
+    omega (arith, room c.requires.1, ap length (trailer (goal.at.write_bytes-requires c).After-trailer_length-shorter), length_trailer c.args.net c.args.kind (row_count c.args.parts.calls.now), simp length-append at three.is_next, adds_length three)
 
 pub returns : goal.returns
 unfolding file_of part

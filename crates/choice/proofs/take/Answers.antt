@@ -1,7 +1,0 @@
--- `choice::take` meets its contract: the central is put as one in use.
-use Rattle.choice.specs.Record.{taking}
-use Rattle.choice.proofs.take.Goals as goal
-
-pub returns : goal.returns
-unfolding taking
-returns c = c.put.ensures
