@@ -82,10 +82,6 @@ returns-then-row-gt-MOST_CALLS c =
     past_2 _ _ _ _ _ _ _ c.in_ok-row.ensures.answer refl c.if-call-ne4.false
     (test_stops 2 0 _ (lt-ltb most_calls (suc (row_count c.args.calls.now)) (omega (arith, counted (goal.at.returns-then-row-gt-MOST_CALLS c).In_ok-row, c.if-row-gt-MOST_CALLS.true))))
 
-pub are_short-requires : goal.are_short-requires
-unfolding most_calls
-are_short-requires c = omega arith
-
 -- K and one more are not too many
 few : (c : Else-row-gt-MOST_CALLS) → suc (row_count c.args.calls.now) ≤ most_calls
 unfolding most_calls

@@ -16,9 +16,6 @@ chain_from_input-returns-in_default t c =
 input_on : {t : ℕ} (c : chain_from_input-In-Some t) → Stepping false c.args.rows.now c.args.from c.args.central c.args.left (some c.in-Some.row)
 input_on c = record { mendable = c.requires; searched = c.in-Some.ensures }
 
-pub chain_from_input-overflow_sub-left : goal.chain_from_input-overflow_sub-left
-chain_from_input-overflow_sub-left t c = some_left (input_on (goal.at.chain_from_input-overflow_sub-left t c).In-Some) refl
-
 pub chain_from_input-tell-requires : goal.chain_from_input-tell-requires
 chain_from_input-tell-requires t c = tell_room (input_on (goal.at.chain_from_input-tell-requires t c).In-Some) refl
 
@@ -40,9 +37,6 @@ chain_from_output-returns-in_default t c =
 -- a call stands there
 output_on : {t : ℕ} (c : chain_from_output-In-Some t) → Stepping true c.args.rows.now c.args.from c.args.central c.args.left (some c.in-Some.row)
 output_on c = record { mendable = c.requires; searched = c.in-Some.ensures }
-
-pub chain_from_output-overflow_sub-left : goal.chain_from_output-overflow_sub-left
-chain_from_output-overflow_sub-left t c = some_left (output_on (goal.at.chain_from_output-overflow_sub-left t c).In-Some) refl
 
 pub chain_from_output-tell-requires : goal.chain_from_output-tell-requires
 chain_from_output-tell-requires t c = tell_room (output_on (goal.at.chain_from_output-tell-requires t c).In-Some) refl

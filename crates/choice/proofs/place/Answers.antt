@@ -26,9 +26,6 @@ pub overflow_cast-rows : goal.overflow_cast-rows
 unfolding most_centrals
 overflow_cast-rows c = record { fits = omega (arith, small_common c.requires _ (found (goal.at.overflow_cast-rows c).In-Some)) }
 
-pub place_by_chain-requires : goal.place_by_chain-requires
-place_by_chain-requires c = (c.requires, record { searched = rw (← c.module_number-input.ensures.0, ← c.module_number-output.ensures.0) c.in_default.ensures })
-
 pub record_row-requires : goal.record_row-requires
 record_row-requires c =
     let h = c.requires in

@@ -23,9 +23,6 @@ overflow_cast-result-3 c = record { fits = (small_sizes _ c.requires.0).2 }
 pub overflow_cast-result-4 : goal.overflow_cast-result-4
 overflow_cast-result-4 c = record { fits = (small_sizes _ c.requires.0).3 }
 
-pub overflow_cast-result-5 : goal.overflow_cast-result-5
-overflow_cast-result-5 c = record { fits = c.requires.1 }
-
 pub returns : goal.returns
 unfolding last_twelve mark
 returns c = cc
