@@ -4,8 +4,8 @@
 --   most_sizes, most_first_line, most_row_line == so many bytes are enough for the sizes and K, for a first line or a refusal, and for
 --                      the line of a row
 --   longest_listing  == so many bytes are enough for every listing
---   HasRoom text size == the text's buffer has room for so many bytes more
---   Writes before after bytes == these bytes were written behind the text so far, in the same buffer
+--   TextRoom text size == the text's buffer has room for so many bytes more
+--   WritesText before after bytes == these bytes were written behind the text so far, in the same buffer
 --   moved_word moved == the word for the moved count: the count in decimal, or a dash where there is none
 --   HasRow calls settings row, HasRows calls settings == the row, and all rows, stand in calls and settings
 --   Lists file before after size == what the entry guarantees
@@ -44,10 +44,10 @@ most_row_line = (row_digits + 1) + 7 * (byte_digits + 1)
 unfoldable pub longest_listing : ℕ
 longest_listing = most_first_line + most_row_line * most_calls
 
-abbrev pub HasRoom : Text → ℕ → Type 0
-HasRoom text size = text.end + size ≤ length text.out.now
+abbrev pub TextRoom : Text → ℕ → Type 0
+TextRoom text size = text.end + size ≤ length text.out.now
 
-pub record Writes (before after : Text) (bytes : List ℕ) : Type 0 where
+pub record WritesText (before after : Text) (bytes : List ℕ) : Type 0 where
   pub same_buffer : after.out.ghost_name ≡ before.out.ghost_name
   pub same_length : length after.out.now ≡ length before.out.now
   pub adds : Adds before.out.now after.out.now before.end after.end bytes

@@ -10,7 +10,7 @@ ghost use Rattle.calls.specs.Refusal.{number_of, row_of};
 ghost use Rattle.trailer.specs.Trailer.{whole_told};
 ghost use Rattle.planfile.specs.Reader.{read_answer, Reads};
 ghost use Rattle.lines.specs.Text.{refused_text, first_line, row_line, row_lines, table_text, calls_text, told_text};
-ghost use Rattle.lines.specs.Writing.{number_digits, most_first_line, most_row_line, longest_listing, moved_word, HasRoom, Writes, HasRow, HasRows, Lists};
+ghost use Rattle.lines.specs.Writing.{number_digits, most_first_line, most_row_line, longest_listing, moved_word, TextRoom, WritesText, HasRow, HasRows, Lists};
 
 use calls::Refusal;
 use shelf::{CallRow, Network, SettingsRow};
@@ -37,8 +37,8 @@ pub const LONGEST_LISTING: usize = FIRST_LINE + ROW_LINE * Network::MOST_CALLS;
 
 // Writes the moved count, or a dash in its place.
 fn write_moved(text: &mut Text<'_>, moved: Option<usize>)
-    requires { HasRoom text.old number_digits }
-    ensures written { Writes text.old text.new (moved_word moved) }
+    requires { TextRoom text.old number_digits }
+    ensures written { WritesText text.old text.new (moved_word moved) }
     ensures short { text.new.end ≤ text.old.end + number_digits }
 {
     match moved {
@@ -49,8 +49,8 @@ fn write_moved(text: &mut Text<'_>, moved: Option<usize>)
 
 // Writes the first line: the sizes of the network, K, and the moved count.
 fn write_first_line(text: &mut Text<'_>, net: Network, count: usize, moved: Option<usize>)
-    requires { HasRoom text.old most_first_line }
-    ensures written { Writes text.old text.new (first_line net count (moved_word moved)) }
+    requires { TextRoom text.old most_first_line }
+    ensures written { WritesText text.old text.new (first_line net count (moved_word moved)) }
     ensures short { text.new.end ≤ text.old.end + most_first_line }
 {
     text.numbers(&[net.n, net.m, net.r, count]);
@@ -60,8 +60,8 @@ fn write_first_line(text: &mut Text<'_>, net: Network, count: usize, moved: Opti
 
 // Writes the line of one row.
 fn write_row(text: &mut Text<'_>, calls: &[u8], settings: &[u8], row: usize)
-    requires { HasRoom text.old most_row_line × HasRow calls.now settings.now row }
-    ensures written { Writes text.old text.new (row_line calls.now settings.now row) }
+    requires { TextRoom text.old most_row_line × HasRow calls.now settings.now row }
+    ensures written { WritesText text.old text.new (row_line calls.now settings.now row) }
     ensures short { text.new.end ≤ text.old.end + most_row_line }
 {
     let call = CallRow::at(calls, row);
@@ -80,8 +80,8 @@ fn write_row(text: &mut Text<'_>, calls: &[u8], settings: &[u8], row: usize)
 
 // Writes the lines of all rows.
 fn write_rows(text: &mut Text<'_>, calls: &[u8], settings: &[u8])
-    requires { HasRoom text.old (most_row_line * row_count calls.now) × HasRows calls.now settings.now }
-    ensures { Writes text.old text.new (row_lines calls.now settings.now (row_count calls.now)) }
+    requires { TextRoom text.old (most_row_line * row_count calls.now) × HasRows calls.now settings.now }
+    ensures { WritesText text.old text.new (row_lines calls.now settings.now (row_count calls.now)) }
 {
     for row in 0..calls.len() / 4 {
         write_row(text, calls, settings, row);
@@ -96,8 +96,8 @@ fn write_table(
     settings: &[u8],
     moved: Option<usize>,
 )
-    requires { HasRoom text.old longest_listing × HasRows calls.now settings.now }
-    ensures { Writes text.old text.new (table_text net calls.now settings.now (moved_word moved)) }
+    requires { TextRoom text.old longest_listing × HasRows calls.now settings.now }
+    ensures { WritesText text.old text.new (table_text net calls.now settings.now (moved_word moved)) }
 {
     write_first_line(text, net, calls.len() / 4, moved);
     write_rows(text, calls, settings);
@@ -105,8 +105,8 @@ fn write_table(
 
 // Writes a refusal, with its number and row.
 fn write_refusal(text: &mut Text<'_>, refusal: Refusal)
-    requires { HasRoom text.old most_first_line }
-    ensures { Writes text.old text.new (refused_text (number_of refusal) (row_of refusal)) }
+    requires { TextRoom text.old most_first_line }
+    ensures { WritesText text.old text.new (refused_text (number_of refusal) (row_of refusal)) }
 {
     let number = refusal.number();
     let row = refusal.row();
@@ -119,8 +119,8 @@ fn write_refusal(text: &mut Text<'_>, refusal: Refusal)
 
 // Plans the calls of a file that holds no settings, and lists them, or tells the planner's refusal.
 fn plan_and_list(text: &mut Text<'_>, net: Network, calls: &[u8])
-    requires { HasRoom text.old longest_listing × (row_count calls.now ≤ most_calls) }
-    ensures { Writes text.old text.new (calls_text net calls.now) }
+    requires { TextRoom text.old longest_listing × (row_count calls.now ≤ most_calls) }
+    ensures { WritesText text.old text.new (calls_text net calls.now) }
 {
     let mut settings = [0u8; 3 * Network::MOST_CALLS];
     match planner::plan(net, calls, &mut settings) {
@@ -134,8 +134,8 @@ fn plan_and_list(text: &mut Text<'_>, net: Network, calls: &[u8])
 
 // Lists a file with the layout that the reader tells: the rows with the file's own settings, or the calls planned.
 fn list_layout(text: &mut Text<'_>, file: &[u8], layout: Layout)
-    requires { HasRoom text.old longest_listing × Reads all_kinds file.now (whole_told layout) }
-    ensures { Writes text.old text.new (told_text file.now (read_answer all_kinds file.now)) }
+    requires { TextRoom text.old longest_listing × Reads all_kinds file.now (whole_told layout) }
+    ensures { WritesText text.old text.new (told_text file.now (read_answer all_kinds file.now)) }
 {
     let calls = &file[layout.calls_at..layout.settings_at];
     if trailer::has_settings(layout.kind) {
@@ -149,8 +149,8 @@ fn list_layout(text: &mut Text<'_>, file: &[u8], layout: Layout)
 
 // Lists a file that is not too long, or tells the reader's refusal.
 fn list_told(text: &mut Text<'_>, file: &[u8])
-    requires { HasRoom text.old longest_listing }
-    ensures { Writes text.old text.new (told_text file.now (read_answer all_kinds file.now)) }
+    requires { TextRoom text.old longest_listing }
+    ensures { WritesText text.old text.new (told_text file.now (read_answer all_kinds file.now)) }
 {
     match planfile::read(file) {
         Ok(layout) => list_layout(text, file, layout),
