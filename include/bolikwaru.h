@@ -6,8 +6,8 @@
    A buffer is handed over as a pointer and a length in bytes; where the length is 0 any pointer will do, also null. A buffer
    that is written must overlap no other. Nothing else is asked of the input. Nothing is kept between calls or allocated.
    Stack, as measured (docs/BENCHMARKS.md), return address included: no call reaches 4,096 bytes below its caller. As today's kit
-   compiles it the planner takes 1,000 bytes, an add 1,584, acceptance 656, a drop 752, the reader 1,168, the writers 1,216, a
-   conversion 1,312; as the kit before it did, the planner and an add took more for a long chain, 3,104 at most.
+   compiles it the planner takes 1,200 bytes, an add 1,208, acceptance 848, a drop 944, the reader 1,200, the writers 1,248, a
+   conversion 1,344; as the kit before it did, the planner and an add took more for a long chain, 3,104 at most.
 
    A call row has 4 bytes: input module, its channel, output module, its channel. The first two are its inlet, the last two
    its outlet. A settings row has 3: wavelength to the central module, central module, wavelength from it. Settings row i

@@ -5,7 +5,7 @@
 //! any buffer.
 //!
 //! The library is for x86-64 Linux. It allocates nothing and keeps nothing between calls. A call
-//! takes stack, at most 1,584 bytes as today's kit compiles it (`docs/BENCHMARKS.md`).
+//! takes stack, at most 1,344 bytes as today's kit compiles it (`docs/BENCHMARKS.md`).
 
 /// A network: n channels of each module, m central modules, r input modules and as many output
 /// modules, and w, the cycle of both gratings, which is the number of wavelengths inside the shelf.

@@ -157,7 +157,9 @@ fn append(calls: &[u8], call: &[u8], out: &mut [u8]) -> usize
     ground::write_bytes(out, end, call)
 }
 
-// Places the last call of the table, writes settings for all rows and the rows that were moved, and tells how many these are.
+// Places the last call of the table, writes settings for all rows and the rows that were moved, and tells how many these are. It stays a call of its
+// own, so that its records take no stack while the input is checked.
+#[inline(never)]
 fn place_and_write(
     net: Network,
     table: &[u8],

@@ -91,7 +91,8 @@ pub fn check_calls(net: Network, calls: &[u8]) -> Result<(), Refusal>
 }
 
 // Refusal 5: the first row with a module or a channel that the network does not have. It and the searches below go by the row's number, which the
-// refusal holds.
+// refusal holds. All stay calls of their own: put into their callers, the ends of a loop lie far behind it, and the check took a third to a half more time.
+#[inline(never)]
 fn seek_outside(net: Network, calls: &[u8]) -> Result<(), Refusal>
     ensures { checked_by result ≡ outside_row net calls.now }
 {
@@ -104,18 +105,18 @@ fn seek_outside(net: Network, calls: &[u8]) -> Result<(), Refusal>
     Ok(())
 }
 
-// Whether the call has a module or a channel that the network does not have.
+// Whether the call has a module or a channel that the network does not have: whether the larger number of its two modules is too large, or that of
+// its two channels. Two tests take less time than four.
 #[tactic(auto, unfolding(ground::specs::Truth::any, crate::specs::Table::outside_call))]
 pub fn is_outside(net: Network, call: CallRow) -> bool
     ensures { result ≡ outside_call net call }
 {
-    net.r <= call.input_module
-        || net.r <= call.output_module
-        || net.n <= call.input_channel
-        || net.n <= call.output_channel
+    net.r <= call.input_module.max(call.output_module)
+        || net.n <= call.input_channel.max(call.output_channel)
 }
 
 // Refusal 6 or 7, by the side: the first row whose inlet, or whose outlet, an earlier row uses.
+#[inline(never)]
 fn seek_repeat(calls: &[u8], side: Side) -> Result<(), Refusal>
     requires { (i : ℕ) → i < row_count calls.now → PointFits calls.now (is_output side) i }
     ensures { checked_by result ≡ point_twice calls.now (is_output side) (twice_number side) }

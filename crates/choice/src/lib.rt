@@ -193,7 +193,7 @@ fn central_at(rows: &[u8], row: usize) -> u8
 }
 
 // The record of use: which centrals are in use at each module of both sides, by the module's number among those of both.
-#[derive(Drop)]
+#[derive(Clone, Copy)]
 pub struct Record {
     pub words: [u32; RECORD],
 }

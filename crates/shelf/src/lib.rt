@@ -152,14 +152,12 @@ impl CallRow {
         ensures { CallRead calls.now row result }
     {
         let (rows, _) = calls.as_chunks::<4>();
-        let [input_module, input_channel, output_module, output_channel] = rows[row].map(
-            usize::from,
-        );
+        let [input_module, input_channel, output_module, output_channel] = &rows[row];
         CallRow {
-            input_module,
-            input_channel,
-            output_module,
-            output_channel,
+            input_module: usize::from(*input_module),
+            input_channel: usize::from(*input_channel),
+            output_module: usize::from(*output_module),
+            output_channel: usize::from(*output_channel),
         }
     }
 }
@@ -179,11 +177,11 @@ impl SettingsRow {
         ensures { SettingsRead settings.now row result }
     {
         let (rows, _) = settings.as_chunks::<3>();
-        let [to_central, central, from_central] = rows[row].map(usize::from);
+        let [to_central, central, from_central] = &rows[row];
         SettingsRow {
-            to_central,
-            central,
-            from_central,
+            to_central: usize::from(*to_central),
+            central: usize::from(*central),
+            from_central: usize::from(*from_central),
         }
     }
 }

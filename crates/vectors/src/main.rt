@@ -16,7 +16,11 @@ use shelf::Network;
 use std::io::{self, Read, Write};
 use trailer::{Kind, Layout, Told};
 
-// The bytes of a head.
+// Where in a head the sizes begin, and the lengths, and the bytes of a whole head.
+const SIZES_AT: usize = 1;
+
+const LENGTHS_AT: usize = 41;
+
 const HEAD: usize = 53;
 
 // The bytes of a buffer for the parts of an input, and of each room. Buffers are fixed arrays: nothing is allocated.
@@ -76,26 +80,27 @@ struct Head {
 }
 
 impl Head {
-    // The next head; none where the input ends before it does, or a read fails. It is read in one go, and then taken apart.
+    // The next head; none where the input ends before it does, or a read fails. It is read in one go, and then taken apart by rows of eight and of
+    // two bytes, each of which has to be there.
     fn read<R: Read>(input: &mut R) -> Option<Head> {
-        let bytes = read_bytes::<R, HEAD>(input)?;
-        let mut head = bytes.as_slice();
-        let [entry] = read_bytes::<&[u8], 1>(&mut head)?;
+        let head = read_bytes::<R, HEAD>(input)?;
+        let (sizes, _) = head[SIZES_AT..LENGTHS_AT].as_chunks::<8>();
+        let (lengths, _) = head[LENGTHS_AT..].as_chunks::<2>();
         Some(Head {
-            entry: Entry::from(entry),
+            entry: Entry::from(head[0]),
             net: Network {
-                n: read_size(&mut head)?,
-                m: read_size(&mut head)?,
-                r: read_size(&mut head)?,
-                w: read_size(&mut head)?,
+                n: usize::from_be_bytes(sizes[0]),
+                m: usize::from_be_bytes(sizes[1]),
+                r: usize::from_be_bytes(sizes[2]),
+                w: usize::from_be_bytes(sizes[3]),
             },
-            row: read_size(&mut head)?,
-            note: read_length(&mut head)?,
-            calls: read_length(&mut head)?,
-            settings: read_length(&mut head)?,
-            first: read_length(&mut head)?,
-            second: read_length(&mut head)?,
-            third: read_length(&mut head)?,
+            row: usize::from_be_bytes(sizes[4]),
+            note: u16::from_be_bytes(lengths[0]),
+            calls: u16::from_be_bytes(lengths[1]),
+            settings: u16::from_be_bytes(lengths[2]),
+            first: u16::from_be_bytes(lengths[3]),
+            second: u16::from_be_bytes(lengths[4]),
+            third: u16::from_be_bytes(lengths[5]),
         })
     }
 }
@@ -164,7 +169,7 @@ impl<'a> Asked<'a> {
             row: head.row,
             note: &parts[..note_end],
             calls: &parts[note_end..calls_end],
-            settings: &parts[calls_end..],
+            settings: &parts[calls_end..settings_end],
             first,
             second,
             third,
@@ -217,16 +222,6 @@ fn read_bytes<R: Read, const N: usize>(input: &mut R) -> Option<[u8; N]> {
     let mut bytes = [0; N];
     input.read_exact(&mut bytes).ok()?;
     Some(bytes)
-}
-
-// The size that is next: eight bytes, the high byte first.
-fn read_size<R: Read>(input: &mut R) -> Option<usize> {
-    Some(usize::from_be_bytes(read_bytes(input)?))
-}
-
-// The length that is next: two bytes, the high byte first.
-fn read_length<R: Read>(input: &mut R) -> Option<u16> {
-    Some(u16::from_be_bytes(read_bytes(input)?))
 }
 
 // The next bytes of the input, at the front of a buffer; none where the buffer has no room for them, the input ends before, or a read

@@ -6,4 +6,4 @@ use Rattle.shelf.proofs.CallRow.at.Goals as goal
 
 pub returns : goal.returns
 unfolding α ω β ω'
-returns c = search (rules, chunk_byte, c.map.ensures.items.at)
+returns c = search (rules, chunk_byte)

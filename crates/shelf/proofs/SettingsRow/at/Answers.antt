@@ -6,4 +6,4 @@ use Rattle.shelf.proofs.SettingsRow.at.Goals as goal
 
 pub returns : goal.returns
 unfolding x γ y
-returns c = search (rules, chunk_byte, c.map.ensures.items.at)
+returns c = search (rules, chunk_byte)
