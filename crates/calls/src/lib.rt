@@ -91,7 +91,7 @@ pub fn check_calls(net: Network, calls: &[u8]) -> Result<(), Refusal>
 }
 
 // Refusal 5: the first row with a module or a channel that the network does not have. It and the searches below go by the row's number, which the
-// refusal holds. All stay calls of their own: put into their callers, the ends of a loop lie far behind it, and the check took a third to a half more time.
+// refusal holds. All stay calls of their own: put into their callers, the ends of a loop lie far behind it, and the check took a third more time.
 #[inline(never)]
 fn seek_outside(net: Network, calls: &[u8]) -> Result<(), Refusal>
     ensures { checked_by result ≡ outside_row net calls.now }

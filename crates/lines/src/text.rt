@@ -13,9 +13,9 @@ pub(crate) struct Text<'a> {
 
 // Writes a number in decimal into `out` at `at`, and tells the position behind it. Not by `write!`: that may fail, as far as its
 // contract says, and a listing may not. One or two digits, as all of a row's line but the row's own number have, are written here:
-// the library zeroes a buffer of 40 bytes for each number, and its digits are copied by a length that varies. A planned file of
-// 1,024 rows took 851,558 instructions with all numbers by the library, and takes 545,795. It stays a call of its own, so that a
-// text's end passes from number to number in a register: as part of `Text::number` it took three tenths more time.
+// the library zeroes a buffer of 40 bytes for each number, and its digits are copied by a length that varies. With all
+// numbers by the library a listing's text took seven tenths more time. It stays a call of its own, so that a text's end passes from
+// number to number in a register: as part of `Text::number` it took three tenths more time.
 #[inline(never)]
 fn write_number(out: &mut [u8], at: usize, value: usize) -> usize
     requires { at + length (decimal value) ≤ length out.old }
