@@ -170,9 +170,9 @@ impl<'a> Asked<'a> {
             note: &parts[..note_end],
             calls: &parts[note_end..calls_end],
             settings: &parts[calls_end..settings_end],
-            first,
-            second,
-            third,
+            first: &mut first[..usize::from(head.first)],
+            second: &mut second[..usize::from(head.second)],
+            third: &mut third[..usize::from(head.third)],
         })
     }
 
