@@ -35,7 +35,7 @@ pub fn check_rows(net: Network, calls: &[u8], settings: &[u8]) -> Result<(), Ref
 
 // The first row that 9 to 13 refuse, by records of the pairs (input module, central) and (output module, central) in use: a word for
 // each module, with a bit for each central. They stay two arrays, since one goes by input modules and the other by output modules: a
-// struct of both would only name them again, and so be no plainer. It stays a call of its own, so that they take no stack while the calls are checked.
+// struct of both would only name them again, and so be no plainer. The search stays a call of its own, so that they take no stack while the calls are checked.
 #[inline(never)]
 fn seek_unlawful(net: Network, calls: &[u8], settings: &[u8]) -> Result<(), Refusal>
     requires { T (within_limits net) × (length settings.now ≡ 3 * row_count calls.now) × ((i : ℕ) → i < row_count calls.now → Inside net calls.now i) }
